@@ -1,0 +1,9 @@
+pub mod Table
+pub mod Level
+pub mod Heights
+pub mod Places
+pub mod Spaced
+pub mod Parity
+pub mod Near
+pub mod Room
+pub mod Sited

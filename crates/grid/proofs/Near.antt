@@ -1,0 +1,79 @@
+-- A list of the code grown by what stands for each number near c: by which of the two numbers lie inside.
+use mathlib.Core.Path.{_≡_, refl, sym, ap, _∙_, subst}
+use mathlib.Core.List.{List, [], _∷_, _++_, append-nil, append-assoc}
+use Prim.Native.Nat.{ℕ, _+_, _-_, _<_, _≤_}
+use native.Mathlib.Omega.{arith}
+use lib.ListN.{length, length-append}
+use lib.Seq.{length-take-le}
+use lib.Dec.{leb}
+use mathlib.Core.Bool.{Bool, true, false, cond}
+use borrow.Author.Tests.{le-leb, lt-leb}
+use Rattle.grid.specs.Points.{near, each, listed, Listed}
+use Rattle.grid.specs.declared.points.Point.{Point}
+use Rattle.grid.specs.declared.points.Few.{Few}
+
+-- a list of the code, by an equal list of points
+pub relist : {f : Few} {ps qs : List Point} → Listed f ps → ps ≡ qs → Listed f qs
+relist {f} h e = subst (λ (l : List Point). Listed f l) e h
+
+-- two steps of listing are one
+pub listed-then : {f g : Few} {ps : List Point} (qs : List Point) → Listed f ps → Listed g (listed f ++ qs) → Listed g (ps ++ qs)
+listed-then {f} {g} {ps} qs h k = relist k (ap (λ (l : List Point). l ++ qs) (h .points))
+
+module _ (f : Few) (few : f .count ≤ 4) (four : length (f .points) ≡ 4) where
+  listed-length : length (listed f) ≡ f .count
+  listed-length = length-take-le (f .count) (f .points) (omega arith)
+
+  -- a list of the code lists what it lists
+  pub itself : Listed f (listed f)
+  itself = record { points = refl; count = sym listed-length; room = four }
+
+  -- grown by these points, it counts them too
+  pub counts : {g : Few} (ps : List Point) → Listed g (listed f ++ ps) → g .count ≡ f .count + length ps
+  counts ps h = h .count ∙ length-append (listed f) ps ∙ ap (λ (n : ℕ). n + length ps) listed-length
+
+module _ (at-each : ℕ → List Point) (n s c : ℕ) where
+  near-both : s ≤ c → c + s ≤ n → each at-each (near n s c) ≡ at-each (c - s) ++ at-each (c + s)
+  near-both l h = rw (le-leb s c l, le-leb (c + s) n h) (ap (λ (r : List Point). at-each (c - s) ++ r) (append-nil (at-each (c + s))))
+
+  near-below : s ≤ c → n < c + s → each at-each (near n s c) ≡ at-each (c - s)
+  near-below l h = rw (le-leb s c l, lt-leb (c + s) n h) (append-nil (at-each (c - s)))
+
+  near-above : c < s → c + s ≤ n → each at-each (near n s c) ≡ at-each (c + s)
+  near-above l h = rw (lt-leb s c l, le-leb (c + s) n h) (append-nil (at-each (c + s)))
+
+  near-none : c < s → n < c + s → each at-each (near n s c) ≡ []
+  near-none l h = rw (lt-leb s c l, lt-leb (c + s) n h)
+
+  module _ (ps : List Point) where
+    -- the list ps, grown by what stands for each number near c
+    abbrev pub Grown : Few → Type 0
+    Grown g = Listed g (ps ++ each at-each (near n s c))
+
+    behind : {g : Few} (qs : List Point) → Listed g (ps ++ qs) → each at-each (near n s c) ≡ qs → Grown g
+    behind qs h e = relist h (ap (λ (l : List Point). ps ++ l) (sym e))
+
+    pub grown-both : {g h : Few} (qs rs : List Point) → s ≤ c → c + s ≤ n → qs ≡ at-each (c - s) → rs ≡ at-each (c + s) →
+        Listed g (ps ++ qs) → Listed h (listed g ++ rs) → Grown h
+    grown-both qs rs l u e f a b =
+        behind (qs ++ rs) (relist (listed-then rs a b) (append-assoc ps qs rs))
+        (near-both l u ∙ (λ i. sym e i ++ sym f i))
+
+    pub grown-below : {g : Few} (qs : List Point) → s ≤ c → n < c + s → qs ≡ at-each (c - s) → Listed g (ps ++ qs) → Grown g
+    grown-below qs l u e a = behind qs a (near-below l u ∙ sym e)
+
+    pub grown-above : {g : Few} (qs : List Point) → c < s → c + s ≤ n → qs ≡ at-each (c + s) → Listed g (ps ++ qs) → Grown g
+    grown-above qs l u e a = behind qs a (near-above l u ∙ sym e)
+
+    pub grown-none : {g : Few} → c < s → n < c + s → Listed g ps → Grown g
+    grown-none l u a = behind [] (relist a (sym (append-nil ps))) (near-none l u)
+
+-- at most two numbers are near, so one point for each is at most two
+pub near-count : (laid-at : ℕ → Point) (n s c : ℕ) → length (each (λ a. laid-at a ∷ []) (near n s c)) ≤ 2
+near-count laid-at n s c = go (leb s c) (leb (c + s) n)
+  where
+    go : (t u : Bool) → length (each (λ a. laid-at a ∷ []) (cond t ((c - s) ∷ []) [] ++ cond u ((c + s) ∷ []) [])) ≤ 2
+    go true true = omega arith
+    go true false = omega arith
+    go false true = omega arith
+    go false false = omega arith

@@ -1,0 +1,28 @@
+-- `grid::points::is_corner` meets its contract: both coordinates are at an end.
+use mathlib.Core.Path.{_≡_, refl, sym, _∙_}
+use mathlib.Core.Bool.{Bool, true, false, _&&_}
+use borrow.Author.Needs.{needs}
+use Rattle.grid.specs.Points.{isCorner}
+use Rattle.grid.proofs.points.is_corner.Statement.{statement}
+use Rattle.grid.proofs.points.is_corner.Tie as tie
+
+is-end-requires : tie.Need-is-end-requires
+is-end-requires c κs = search needs
+
+is-end-requires-2 : tie.Need-is-end-requires-2
+is-end-requires-2 c κs = search needs
+
+-- a test that came out as t is t in its conjunction
+came : {a r t : Bool} (b : Bool) → r ≡ a → r ≡ t → (t && b) ≡ (a && b)
+came b e f = rw (← e, f)
+
+returns : tie.Need-returns
+unfolding isCorner
+returns c = c .is-end2 .ensures ∙ came _ (c .before .before .is-end .ensures) (c .before .if1 .taken)
+
+returns-2 : tie.Need-returns-2
+unfolding isCorner
+returns-2 c = came _ (c .before .is-end .ensures) (c .if1 .left)
+
+pub is-corner-spec : {M : Type 1} → statement M
+is-corner-spec = tie.close (tie.spec is-end-requires is-end-requires-2 returns returns-2)

@@ -1,0 +1,24 @@
+-- `grid::points::two` meets its contract: none, then one, then another.
+use Prim.Native.Nat.{ℕ}
+use native.Mathlib.Omega.{arith}
+use borrow.Author.Needs.{needs}
+use Rattle.grid.proofs.Near.{listed-then}
+use Rattle.grid.proofs.points.two.Statement.{statement}
+use Rattle.grid.proofs.points.two.Tie as tie
+
+none-requires : tie.Need-none-requires
+none-requires c κs = search needs
+
+with-requires : tie.Need-with-requires
+with-requires c κs = search needs
+
+with-requires-2 : tie.Need-with-requires-2
+with-requires-2 c κs =
+    let one = listed-then _ (c .before .none .ensures) (c .with .ensures) in
+    (omega (arith, one .count), one .room)
+
+returns : tie.Need-returns
+returns c = listed-then _ (listed-then _ (c .before .before .none .ensures) (c .before .with .ensures)) (c .with2 .ensures)
+
+pub two-spec : {M : Type 1} → statement M
+two-spec = tie.close (tie.spec none-requires with-requires with-requires-2 returns)

@@ -1,0 +1,6 @@
+pub mod Grid
+pub mod Refusal
+pub mod Mark
+pub mod Sizes
+pub mod Points
+pub mod Hierarchy

@@ -1,0 +1,18 @@
+-- What a mark may be, what it keeps, what it says of the sample. Document 01, "Marks". Definitions only.
+use mathlib.Core.Bool.{Bool, true, false, cond, _||_}
+use Prim.Native.Nat.{ℕ}
+use lib.Dec.{eqb, leb}
+
+-- good marks are 3 at grid corners and 0, 1, 2, 4, 6 elsewhere
+abbrev pub goodMark : Bool → ℕ → Bool
+goodMark corner mark =
+    cond corner (eqb mark 3)
+    (eqb mark 0 || eqb mark 1 || eqb mark 2 || eqb mark 4 || eqb mark 6)
+
+-- a point is kept if its mark is 1, 2, 3 or 6
+abbrev pub keptMark : ℕ → Bool
+keptMark mark = eqb mark 1 || eqb mark 2 || eqb mark 3 || eqb mark 6
+
+-- the sample was void: 4 was added to the mark
+abbrev pub filledMark : ℕ → Bool
+filledMark mark = leb 4 mark

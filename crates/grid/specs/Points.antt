@@ -1,0 +1,156 @@
+-- Points, ends and dependencies. Document 01, the section of that name (document 001, section 2.1). Definitions only.
+use mathlib.Core.Bool.{Bool, true, false, cond, _&&_, _||_}
+use mathlib.Core.List.{List, [], _∷_, _++_}
+use Prim.Native.Nat.{ℕ, zero, suc, _+_, _-_, _*_, _^_, _/_, _%_, _≤_}
+use lib.Dec.{eqb, leb}
+use lib.ListN.{take, length}
+use mathlib.Core.Path.{_≡_}
+use Rattle.grid.specs.Grid.{side, at}
+use Rattle.grid.specs.declared.points.Point.{Point}
+use Rattle.grid.specs.declared.points.Pair.{Pair}
+use Rattle.grid.specs.declared.points.Few.{Few}
+use Rattle.grid.specs.declared.points.Units.{Units}
+use Rattle.grid.specs.declared.points.Site.{Site}
+use Rattle.grid.specs.declared.points.Kind.{Kind}
+use Rattle.grid.specs.declared.points.Kind.the-variants.{Corner, EastWest, NorthSouth, Rising, Falling}
+
+-- the four grid corners
+abbrev pub isEnd : ℕ → ℕ → Bool
+isEnd m c = eqb c 0 || eqb c (side m)
+
+unfoldable pub isCorner : ℕ → Point → Bool
+isCorner m p = isEnd m (p .x) && isEnd m (p .y)
+
+-- d divides both x and y (zero is divisible by all)
+abbrev pub dividesBoth : ℕ → ℕ → ℕ → Bool
+dividesBoth d x y = eqb (x % d) 0 && eqb (y % d) 0
+
+-- the largest j up to m for which 2^j divides both x and y
+unfoldable pub level : ℕ → ℕ → ℕ → ℕ
+level zero x y = 0
+level (suc j) x y = cond (dividesBoth (2 ^ suc j) x y) (suc j) (level j x y)
+
+-- spacing: the largest power of two that divides both x and y (up to N, which bounds it at grid corners alone)
+unfoldable pub spacing : ℕ → Point → ℕ
+spacing m p = 2 ^ level m (p .x) (p .y)
+
+-- a point counted in units of its spacing: x/s and y/s
+unfoldable pub units : ℕ → Point → Units
+units m p = record { spacing = spacing m p; across = p .x / spacing m p; up = p .y / spacing m p }
+
+abbrev pub odd : ℕ → Bool
+odd n = eqb (n % 2) 1
+
+-- counted in units of 2s, the two coordinates are both odd or both even
+abbrev pub alike : ℕ → Point → Bool
+alike s p = eqb (p .x / (2 * s) % 2) (p .y / (2 * s) % 2)
+
+-- Centre point: x/s and y/s both odd. Of the four points (x±s, y±s), counted in units of 2s, one has both odd and one has
+-- both even: they are opposite, so they are (x-s, y-s) and (x+s, y+s), Rising, or else the other two, Falling.
+-- Edge point: exactly one of x/s and y/s is odd, and the ends lie along that axis. (Both are even at grid corners alone.)
+abbrev pub kindBy : Bool → Bool → Bool → Kind
+kindBy true true rising = cond rising Rising Falling
+kindBy true false rising = EastWest
+kindBy false oddUp rising = NorthSouth
+
+unfoldable pub kind : ℕ → Point → Kind
+kind m p =
+    cond (isCorner m p) Corner
+    (kindBy (odd (units m p .across)) (odd (units m p .up))
+    (alike (spacing m p) (at (p .x - spacing m p) (p .y - spacing m p))))
+
+unfoldable pub site : ℕ → Point → Site
+site m p = record { kind = kind m p; spacing = spacing m p }
+
+abbrev pub pair : Point → Point → Pair
+pair p q = record { first = p; second = q }
+
+-- the ends of a point, the lower place first: the two points s away on the line that its kind names.
+-- A grid corner has no ends: the pair is the corner itself.
+abbrev pub endsBy : Kind → ℕ → ℕ → ℕ → Pair
+endsBy Corner s x y = pair (at x y) (at x y)
+endsBy EastWest s x y = pair (at (x - s) y) (at (x + s) y)
+endsBy NorthSouth s x y = pair (at x (y - s)) (at x (y + s))
+endsBy Rising s x y = pair (at (x - s) (y - s)) (at (x + s) (y + s))
+endsBy Falling s x y = pair (at (x + s) (y - s)) (at (x - s) (y + s))
+
+unfoldable pub ends : ℕ → Point → Pair
+ends m p = endsBy (kind m p) (spacing m p) (p .x) (p .y)
+
+-- the line that the kind names reaches s back: what the code asks before it subtracts
+abbrev pub Back : Kind → ℕ → ℕ → ℕ → Type 0
+Back Corner s x y = Unit {0}
+Back EastWest s x y = s ≤ x
+Back NorthSouth s x y = s ≤ y
+Back Rising s x y = (s ≤ x) × (s ≤ y)
+Back Falling s x y = (s ≤ x) × (s ≤ y)
+
+-- the numbers s below and s above c that lie from 0 to n
+abbrev pub near : ℕ → ℕ → ℕ → List ℕ
+near n s c = cond (leb s c) ((c - s) ∷ []) [] ++ cond (leb (c + s) n) ((c + s) ∷ []) []
+
+-- for each number of a list, the points that f names
+abbrev pub each : (ℕ → List Point) → List ℕ → List Point
+each f [] = []
+each f (c ∷ cs) = f c ++ each f cs
+
+-- the point a along a line and b beside it: an east-west line, or turned to a north-south one
+abbrev pub laid : Bool → ℕ → ℕ → Point
+laid false a b = at a b
+laid true a b = at b a
+
+abbrev pub inLine : Bool → ℕ → List ℕ → List Point
+inLine turned b cs = each (λ a. laid turned a b ∷ []) cs
+
+-- what a point depends on, by rising place: a centre on the other two of the four around it; an edge point on the points
+-- s away along the other axis, those inside the square; a grid corner on none
+abbrev pub dependsBy : Kind → ℕ → ℕ → ℕ → ℕ → List Point
+dependsBy Corner n s x y = []
+dependsBy EastWest n s x y = inLine true x (near n s y)
+dependsBy NorthSouth n s x y = inLine false y (near n s x)
+dependsBy Rising n s x y = at (x + s) (y - s) ∷ at (x - s) (y + s) ∷ []
+dependsBy Falling n s x y = at (x - s) (y - s) ∷ at (x + s) (y + s) ∷ []
+
+unfoldable pub dependsOn : ℕ → Point → List Point
+dependsOn m p = dependsBy (kind m p) (side m) (spacing m p) (p .x) (p .y)
+
+-- the dependents of an edge point: those half its spacing away both ways, inside the square; none where s is 1
+abbrev pub crossing : ℕ → ℕ → ℕ → ℕ → List Point
+crossing n h x y = each (λ b. inLine false b (near n h x)) (near n h y)
+
+abbrev pub crossed : ℕ → ℕ → ℕ → ℕ → List Point
+crossed n s x y = cond (eqb s 1) [] (crossing n (s / 2) x y)
+
+-- the dependents of a centre: the four at distance s along the axes
+abbrev pub beside : ℕ → ℕ → ℕ → List Point
+beside s x y = at x (y - s) ∷ at (x - s) y ∷ at (x + s) y ∷ at x (y + s) ∷ []
+
+-- the dependents of a point, those that depend on it, by rising place; of a grid corner, always kept, none are asked for
+abbrev pub dependentsBy : Kind → ℕ → ℕ → ℕ → ℕ → List Point
+dependentsBy Corner n s x y = []
+dependentsBy EastWest n s x y = crossed n s x y
+dependentsBy NorthSouth n s x y = crossed n s x y
+dependentsBy Rising n s x y = beside s x y
+dependentsBy Falling n s x y = beside s x y
+
+unfoldable pub dependents : ℕ → Point → List Point
+dependents m p = dependentsBy (kind m p) (side m) (spacing m p) (p .x) (p .y)
+
+-- the points that a value of the code lists
+abbrev pub listed : Few → List Point
+listed f = take (f .count) (f .points)
+
+-- a value of the code lists just these points, and has room for four
+pub record Listed (f : Few) (ps : List Point) : Type 0 where
+  pub points : listed f ≡ ps
+  pub count : f .count ≡ length ps
+  pub room : length (f .points) ≡ 4
+
+-- an edge point of spacing 2^j has rank 2j, a centre point 2j + 1
+abbrev pub centreBit : Bool → Bool → ℕ
+centreBit true true = 1
+centreBit true false = 0
+centreBit false oddUp = 0
+
+unfoldable pub rank : ℕ → Point → ℕ
+rank m p = 2 * level m (p .x) (p .y) + centreBit (odd (units m p .across)) (odd (units m p .up))

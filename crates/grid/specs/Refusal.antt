@@ -1,0 +1,42 @@
+-- The refusal numbers. Document 01, "What a call may turn down". Definitions only.
+use Prim.Native.Nat.{ℕ}
+
+-- the call is not refused
+abbrev pub accepted : ℕ
+accepted = 0
+
+-- m above the largest size
+abbrev pub sizeAbove : ℕ
+sizeAbove = 1
+
+-- a sample buffer not exactly (N+1)² long
+abbrev pub wrongLength : ℕ
+wrongLength = 2
+
+-- a grid corner is void; a corner of the final triangle has height -32768
+abbrev pub voidCorner : ℕ
+voidCorner = 3
+
+-- tolerance above 65,535
+abbrev pub toleranceAbove : ℕ
+toleranceAbove = 4
+
+-- point beyond 4N
+abbrev pub pointBeyond : ℕ
+pointBeyond = 5
+
+-- a mark that isn't good
+abbrev pub badMark : ℕ
+badMark = 6
+
+-- good marks, set not closed
+abbrev pub notClosed : ℕ
+notClosed = 7
+
+-- fewer than three entries per triangle
+abbrev pub noRoom : ℕ
+noRoom = 8
+
+-- program only: input form
+abbrev pub inputForm : ℕ
+inputForm = 9
