@@ -7,3 +7,4 @@ pub mod Parity
 pub mod Near
 pub mod Room
 pub mod Sited
+pub mod Coarser

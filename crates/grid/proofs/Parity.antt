@@ -1,16 +1,18 @@
 -- The kind of a point by the parities of its units: which is odd, and for a centre whether their halves are alike.
+-- `sort` gives the kind of a point that is no grid corner together with those parities.
 use mathlib.Core.Path.{_≡_, refl, sym, ap, _∙_, subst}
 use mathlib.Core.Bool.{Bool, true, false, cond}
-use mathlib.Core.Logic.{_≢_}
+use mathlib.Core.Logic.{_≢_, ⊎-elim}
 use Prim.Native.Nat.{ℕ, _+_, _-_, _*_, _/_, _%_, _<_}
+use native.Mathlib.Decide.{ℕ-discrete}
 use native.Mathlib.Omega.{arith}
 use borrow.Author.Tests.{eq-eqb, ne-eqb}
 use lib.Dec.{eqb}
-use Rattle.grid.specs.Grid.{at}
+use Rattle.grid.specs.Grid.{at, Inside}
 use Rattle.grid.specs.Points.{units, spacing, isCorner, kind, kindBy, alike, odd}
 use Rattle.grid.specs.declared.points.Point.{Point}
 use Rattle.grid.specs.declared.points.Kind.the-variants.{Corner, EastWest, NorthSouth, Rising, Falling}
-use Rattle.grid.proofs.Spaced.{east-units, north-units, spacing-positive, before}
+use Rattle.grid.proofs.Spaced.{View, view, east-units, north-units, spacing-positive, before}
 
 even-false : (n : ℕ) → n % 2 ≡ 0 → odd n ≡ false
 even-false n e = ne-eqb (n % 2) 1 (λ o. omega arith)
@@ -67,3 +69,25 @@ module _ (m : ℕ) (p : Point) where
           alike-halves oa ou,
           ne-eqb (units m p .across / 2 % 2) (units m p .up / 2 % 2) e,
         )
+
+-- the kind of a point, with the parities of its units
+pub data Sort (m : ℕ) (p : Point) : Type 0 where
+  eastWest : kind m p ≡ EastWest → units m p .across % 2 ≡ 1 → units m p .up % 2 ≡ 0 → Sort m p
+  northSouth : kind m p ≡ NorthSouth → units m p .across % 2 ≡ 0 → units m p .up % 2 ≡ 1 → Sort m p
+  rising : kind m p ≡ Rising → units m p .across % 2 ≡ 1 → units m p .up % 2 ≡ 1 →
+      units m p .across / 2 % 2 ≡ units m p .up / 2 % 2 → Sort m p
+  falling : kind m p ≡ Falling → units m p .across % 2 ≡ 1 → units m p .up % 2 ≡ 1 →
+      units m p .across / 2 % 2 ≢ units m p .up / 2 % 2 → Sort m p
+
+sort-by : (m : ℕ) (p : Point) → isCorner m p ≡ false → View m p → Dec (units m p .across % 2 ≡ 1) → Dec (units m p .up % 2 ≡ 1) →
+    Dec (units m p .across / 2 % 2 ≡ units m p .up / 2 % 2) → Sort m p
+sort-by m p inner v (no e) d f =
+    northSouth (kind-north-south m p inner (omega arith)) (omega arith) (⊎-elim (λ o. absurd (e o)) (λ o. o) (v .odd))
+sort-by m p inner v (yes e) (no d) f = eastWest (kind-east-west m p inner e (omega arith)) e (omega arith)
+sort-by m p inner v (yes e) (yes d) (yes f) = rising (kind-rising m p inner e d f) e d f
+sort-by m p inner v (yes e) (yes d) (no f) = falling (kind-falling m p inner e d f) e d f
+
+pub sort : (m : ℕ) (p : Point) → Inside m p → isCorner m p ≡ false → Sort m p
+sort m p h inner =
+    sort-by m p inner (view m p h inner) (ℕ-discrete (units m p .across % 2) 1) (ℕ-discrete (units m p .up % 2) 1)
+    (ℕ-discrete (units m p .across / 2 % 2) (units m p .up / 2 % 2))

@@ -1,10 +1,8 @@
 -- The line on which a point's ends lie stays inside the square: s back and s on from the point.
 use mathlib.Core.Path.{_≡_, refl, sym, ap, _∙_, subst}
 use mathlib.Core.Bool.{Bool, true, false}
-use mathlib.Core.Logic.{_⊎_, ⊎-elim}
 use Prim.Native.Nat.{ℕ, suc, _+_, _-_, _*_, _/_, _%_, _≤_, _<_}
 use native.Mathlib.Nat.{mul-suc, mul-le-mul-left, mul-one}
-use native.Mathlib.Decide.{ℕ-discrete}
 use native.Mathlib.Omega.{arith}
 use lib.Pow.{pow-mono}
 use Rattle.grid.specs.Grid.{side, Inside}
@@ -14,7 +12,7 @@ use Rattle.grid.specs.declared.points.Kind.{Kind}
 use Rattle.grid.specs.declared.points.Kind.the-variants.{Corner, EastWest, NorthSouth, Rising, Falling}
 use Rattle.grid.proofs.Level.{level-most}
 use Rattle.grid.proofs.Spaced.{View, view, east-units, north-units}
-use Rattle.grid.proofs.Parity.{kind-corner, kind-north-south, kind-east-west, kind-rising, kind-falling}
+use Rattle.grid.proofs.Parity.{kind-corner, Sort, eastWest, northSouth, rising, falling, sort}
 
 pub spacing-side : (m : ℕ) (p : Point) → spacing m p ≤ side m
 unfolding spacing
@@ -48,21 +46,17 @@ module _ (m : ℕ) (p : Point) where
   north : (v : View m p) → units m p .up % 2 ≡ 1 → Reach (side m) (spacing m p) (p .y)
   north v o = reach (side m) (spacing m p) (v .half) (units m p .up) (p .y) (v .wide) (north-units m p) (v .north) o
 
-  by : isCorner m p ≡ false → View m p → Dec (units m p .across % 2 ≡ 1) → Dec (units m p .up % 2 ≡ 1) →
-      Dec (units m p .across / 2 % 2 ≡ units m p .up / 2 % 2) → Reaches (kind m p)
+  by : View m p → Sort m p → Reaches (kind m p)
   unfolding Reaches
-  by inner v (no e) d f =
-      rw (kind-north-south m p inner (omega arith)) (north v (⊎-elim (λ o. absurd (e o)) (λ o. o) (v .odd)))
-  by inner v (yes e) (no d) f = rw (kind-east-west m p inner e (omega arith)) (east v e)
-  by inner v (yes e) (yes d) (yes f) = rw (kind-rising m p inner e d f) (east v e, north v d)
-  by inner v (yes e) (yes d) (no f) = rw (kind-falling m p inner e d f) (east v e, north v d)
+  by v (eastWest k oa eb) = rw k (east v oa)
+  by v (northSouth k ea ob) = rw k (north v ob)
+  by v (rising k oa ob e) = rw k (east v oa, north v ob)
+  by v (falling k oa ob e) = rw k (east v oa, north v ob)
 
   go : Inside m p → (t : Bool) → isCorner m p ≡ t → Reaches (kind m p)
   unfolding Reaches
   go h true e = rw (kind-corner m p e) tt
-  go h false e =
-      by e (view m p h e) (ℕ-discrete (units m p .across % 2) 1) (ℕ-discrete (units m p .up % 2) 1)
-      (ℕ-discrete (units m p .across / 2 % 2) (units m p .up / 2 % 2))
+  go h false e = by (view m p h e) (sort m p h e)
 
   pub room : Inside m p → Reached (kind m p) (side m) (spacing m p) (p .x) (p .y)
   unfolding Reaches

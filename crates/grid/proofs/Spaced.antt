@@ -73,7 +73,7 @@ pub record View (m : ℕ) (p : Point) : Type 0 where
   pub north : units m p .up ≤ 2 * half
   pub odd : (units m p .across % 2 ≡ 1) ⊎ (units m p .up % 2 ≡ 1)
 
-twice-units : (j x a : ℕ) → x ≡ 2 ^ j * a → a % 2 ≡ 0 → x % 2 ^ suc j ≡ 0
+pub twice-units : (j x a : ℕ) → x ≡ 2 ^ j * a → a % 2 ≡ 0 → x % 2 ^ suc j ≡ 0
 twice-units j x a e z =
     let d : a ≡ 2 * (a / 2) = omega arith in
     let f : x ≡ 2 ^ suc j * (a / 2) =
