@@ -2,6 +2,7 @@ pub mod Table
 pub mod Level
 pub mod Heights
 pub mod Places
+pub mod OnGrid
 pub mod Spaced
 pub mod Parity
 pub mod Near

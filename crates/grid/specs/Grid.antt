@@ -59,6 +59,15 @@ pub record Inside (m : ℕ) (p : Point) : Type 0 where
   pub east : p .x ≤ side m
   pub north : p .y ≤ side m
 
+-- n entries: f at each number from i
+abbrev pub entries : {A : Type 0} → (ℕ → A) → ℕ → ℕ → List A
+entries f i zero = []
+entries f i (suc n) = f i ∷ entries f (suc i) n
+
+-- one entry for each sample, in the order of their places: f at each point
+unfoldable pub onGrid : {A : Type 0} → ℕ → (Point → A) → List A
+onGrid m f = entries (λ i. f (point m i)) 0 (samples m)
+
 -- halfway between two points
 unfoldable pub middle : Point → Point → Point
 middle p q = at ((p .x + q .x) / 2) ((p .y + q .y) / 2)

@@ -82,3 +82,13 @@ pub fn size_of(m: u32) -> SizeAnswer
         }
     }
 }
+
+// The grid of one of the eight sizes.
+pub fn grid_of(m: u32) -> Grid
+    requires { ⌜ m ≤ largest ⌝ }
+    ensures { λ r. ⌜ r ≡ gridOf m ⌝ }
+{
+    let answer = size_of(m);
+    let size = answer.size;
+    Grid { m, side: size.side }
+}

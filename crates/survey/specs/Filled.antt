@@ -1,0 +1,58 @@
+-- The filled heights: every sample's height, found by its ends' where it is void. Document 01, "Points, ends and
+-- dependencies". Definitions only.
+use mathlib.Core.Path.{_≡_}
+use mathlib.Core.Bool.{Bool, true, false, cond}
+use mathlib.Core.List.{List}
+use mathlib.Core.Logic.{_⊎_}
+use Prim.Native.Nat.{ℕ, zero, suc, _/_, _<_}
+use lib.ListN.{getD, length}
+use lib.IntN.{ℤ, pos, negsuc, _+ℤ_}
+use Rattle.grid.specs.Grid.{void, isVoid, samples, place, point, onGrid}
+use Rattle.grid.specs.Points.{isCorner, ends}
+use Rattle.grid.specs.declared.points.Point.{Point}
+
+-- half a whole number, the floor, downward
+abbrev pub floorHalf : ℤ → ℤ
+floorHalf (pos n) = pos (n / 2)
+floorHalf (negsuc n) = negsuc (n / 2)
+
+-- the floor of the mean of two heights: -3 and -4 give -4
+abbrev pub floorMean : ℤ → ℤ → ℤ
+floorMean a b = floorHalf (a +ℤ b)
+
+-- the sample of a point
+unfoldable pub sample : ℕ → List ℤ → Point → ℤ
+sample m survey p = getD survey (place m p) void
+
+-- the height of a point, by way of at most d ends in a row: itself if surveyed; of a void the floor of the mean of its two
+-- ends' heights, voids among them
+unfoldable pub heightBy : ℕ → ℕ → List ℤ → Point → ℤ
+heightBy zero m survey p = sample m survey p
+heightBy (suc d) m survey p =
+    cond (isVoid (sample m survey p))
+    (floorMean (heightBy d m survey (ends m p .first)) (heightBy d m survey (ends m p .second)))
+    (sample m survey p)
+
+-- the height of a point: from any point the largest spacing is at most m ends away
+unfoldable pub heightAt : ℕ → List ℤ → Point → ℤ
+heightAt m survey p = heightBy m m survey p
+
+-- the filled heights of a survey
+unfoldable pub filled : ℕ → List ℤ → List ℤ
+filled m survey = onGrid m (heightAt m survey)
+
+-- no grid corner is void
+abbrev pub Cornered : ℕ → List ℤ → Type 0
+Cornered m survey = (p : Point) → isCorner m p ≡ true → isVoid (sample m survey p) ≡ false
+
+-- partly filled: each entry is as it was or is its point's height
+pub record Partly (m : ℕ) (survey heights : List ℤ) : Type 0 where
+  pub long : length heights ≡ length survey
+  pub each : (i : ℕ) → i < samples m →
+      (getD heights i void ≡ getD survey i void) ⊎ (getD heights i void ≡ heightAt m survey (point m i))
+
+-- what finding the height of p leaves
+pub record Found (m : ℕ) (before after : List ℤ) (p : Point) (h : ℤ) : Type 0 where
+  pub height : h ≡ heightAt m before p
+  pub kept : sample m after p ≡ h
+  pub partly : Partly m before after

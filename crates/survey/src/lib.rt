@@ -1,0 +1,57 @@
+// The filled height of every sample.
+use grid::Grid;
+use grid::points::Point;
+ghost use mathlib.Core.Path.{_≡_};
+ghost use lib.ListN.{length};
+ghost use Rattle.grid.specs.Grid.{Sound, Inside, samples};
+ghost use Rattle.survey.specs.Filled.{floorMean, filled, Cornered, Found};
+
+pub fn floor_mean(a: i16, b: i16) -> i16
+    ensures { λ r. ⌜ r ≡ floorMean a b ⌝ }
+{
+    Grid::lowered((Grid::raised(a) + Grid::raised(b)) / 2)
+}
+
+// Recurses to the ends; what was found is kept in heights, so that no height is worked out twice.
+pub fn height_of(g: Grid, p: Point, heights: &mut [i16]) -> i16
+    requires { ⌜ Sound g × Inside (g .m) p × (length (now heights) ≡ samples (g .m)) × Cornered (g .m) (now heights) ⌝ }
+    ensures { λ r. ⌜ Found (g .m) (now (heights .entry)) (now (heights .exit)) p r ⌝ }
+{
+    let at = g.place(p);
+    let h = heights[at];
+    if Grid::is_void(h) {
+        let e = grid::points::ends(g, p);
+        let a = height_of(g, e.first, heights);
+        let b = height_of(g, e.second, heights);
+        let f = floor_mean(a, b);
+        heights[at] = f;
+        return f;
+    }
+    h
+}
+
+fn copy(survey: &[i16], heights: &mut [i16])
+    requires { ⌜ length (now heights) ≡ length (now survey) ⌝ }
+    ensures { λ _. ⌜ now (heights .exit) ≡ now (survey .entry) ⌝ }
+{
+    let mut i = 0;
+    while i < survey.len() {
+        heights[i] = survey[i];
+        i += 1;
+    }
+}
+
+pub fn fill(survey: &[i16], g: Grid, heights: &mut [i16])
+    requires { ⌜ Sound g × (length (now survey) ≡ samples (g .m)) × (length (now heights) ≡ samples (g .m)) × Cornered (g .m) (now survey) ⌝ }
+    ensures { λ _. ⌜ now (heights .exit) ≡ filled (g .m) (now (survey .entry)) ⌝ }
+{
+    copy(survey, heights);
+    let mut i = 0;
+    while i < heights.len() {
+        if Grid::is_void(heights[i]) {
+            let p = g.point(i);
+            height_of(g, p, heights);
+        }
+        i += 1;
+    }
+}
