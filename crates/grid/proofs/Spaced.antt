@@ -4,15 +4,16 @@ use mathlib.Core.Path.{_≡_, refl, sym, ap, _∙_, subst, subst₂}
 use mathlib.Core.Bool.{Bool, true, false, cond, _&&_, _||_, or-true, true≢false}
 use mathlib.Core.Logic.{_⊎_, inl, inr, ⊎-elim}
 use Prim.Native.Nat.{ℕ, zero, suc, _+_, _-_, _*_, _^_, _/_, _%_, _≤_, _<_}
-use native.Mathlib.Nat.{div-add-mod, mul-div-cancel-left, mul-comm, mul-assoc, pow-suc, mul-le-mul-left, le-of-mul-le-mul-left, add-zero, mul-zero, mul-suc, mul-add, mul-one, mul-mod-right, lt-irrefl}
+use native.Mathlib.Nat.{div-add-mod, mul-div-cancel-left, mul-comm, mul-assoc, pow-suc, mul-le-mul-left, le-of-mul-le-mul-left, add-zero, mul-zero, mul-suc, mul-add, mul-one, mul-mod-right, lt-irrefl, zero-mod, mod-self, le-antisymm, le-refl}
 use native.Mathlib.Decide.{ℕ-discrete}
 use native.Mathlib.Omega.{arith}
-use lib.Dec.{eqb}
+use lib.Dec.{T, eqb}
 use lib.Pow.{pow-pos, pow-add}
 use borrow.Author.Tests.{eq-eqb, ne-eqb}
 use Rattle.grid.specs.Grid.{side, at, Inside}
 use Rattle.grid.specs.Points.{level, spacing, units, isCorner, isEnd}
 use Rattle.grid.specs.declared.points.Point.{Point}
+use Rattle.grid.proofs.Table.{both}
 use Rattle.grid.proofs.Level.{Divides, level-units, level-divides, level-most, level-largest}
 
 exactly : (d x : ℕ) → x % d ≡ 0 → x ≡ d * (x / d)
@@ -107,3 +108,42 @@ view m p h inner =
     go j a b ex ey l (no e) (no f) no-larger =
         let c : suc j ≤ j = no-larger (record { east = twice-units j (p .x) a ex (omega arith); north = twice-units j (p .y) b ey (omega arith) }) in
         absurd (lt-irrefl j c)
+
+-- a coordinate at an end is 0 or N
+end-is : (m x : ℕ) → isEnd m x ≡ true → (x ≡ 0) ⊎ (x ≡ side m)
+end-is m x e = go (ℕ-discrete x 0) (ℕ-discrete x (side m))
+  where
+    go : Dec (x ≡ 0) → Dec (x ≡ side m) → (x ≡ 0) ⊎ (x ≡ side m)
+    go (yes z) d = inl z
+    go (no n) (yes z) = inr z
+    go (no n) (no k) = absurd (true≢false (sym e ∙ (λ i. ne-eqb x 0 n i || ne-eqb x (side m) k i)))
+
+end-divided : (m x : ℕ) → isEnd m x ≡ true → x % side m ≡ 0
+end-divided m x e = ⊎-elim (λ z. rw z (zero-mod (side m))) (λ z. rw z (mod-self (side m))) (end-is m x e)
+
+end-inside : (m x : ℕ) → isEnd m x ≡ true → x ≤ side m
+end-inside m x e = ⊎-elim (λ z. omega arith) (λ z. omega arith) (end-is m x e)
+
+holds : (t : Bool) → T t → t ≡ true
+holds true h = refl
+holds false h = absurd h
+
+-- both coordinates of a grid corner are at an end
+corner-ends : (m : ℕ) (p : Point) → isCorner m p ≡ true → (isEnd m (p .x) ≡ true) × (isEnd m (p .y) ≡ true)
+unfolding isCorner
+corner-ends m p e =
+    let t = both (isEnd m (p .x)) (isEnd m (p .y)) (subst T (sym e) tt) in
+    (holds (isEnd m (p .x)) (t .0), holds (isEnd m (p .y)) (t .1))
+
+pub corner-inside : (m : ℕ) (p : Point) → isCorner m p ≡ true → Inside m p
+corner-inside m p e =
+    let c = corner-ends m p e in
+    record { east = end-inside m (p .x) (c .0); north = end-inside m (p .y) (c .1) }
+
+-- a grid corner has level m
+pub corner-level : (m : ℕ) (p : Point) → isCorner m p ≡ true → level m (p .x) (p .y) ≡ m
+corner-level m p e =
+    let c = corner-ends m p e in
+    le-antisymm (level-most m (p .x) (p .y))
+    (level-largest m m (p .x) (p .y) (le-refl m)
+    (record { east = end-divided m (p .x) (c .0); north = end-divided m (p .y) (c .1) }))

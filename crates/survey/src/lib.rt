@@ -3,8 +3,9 @@ use grid::Grid;
 use grid::points::Point;
 ghost use mathlib.Core.Path.{_≡_};
 ghost use lib.ListN.{length};
-ghost use Rattle.grid.specs.Grid.{Sound, Inside, samples};
-ghost use Rattle.survey.specs.Filled.{floorMean, filled, Cornered, Found};
+ghost use Prim.Native.Nat.{_<_};
+ghost use Rattle.grid.specs.Grid.{Sound, Inside, samples, point};
+ghost use Rattle.survey.specs.Filled.{floorMean, heightAt, filled, Cornered, Found};
 
 pub fn floor_mean(a: i16, b: i16) -> i16
     ensures { λ r. ⌜ r ≡ floorMean a b ⌝ }
@@ -41,6 +42,17 @@ fn copy(survey: &[i16], heights: &mut [i16])
     }
 }
 
+// Only a void has to ask for its point.
+fn settle(g: Grid, i: usize, heights: &mut [i16])
+    requires { ⌜ Sound g × (i < samples (g .m)) × (length (now heights) ≡ samples (g .m)) × Cornered (g .m) (now heights) ⌝ }
+    ensures { λ _. ⌜ Found (g .m) (now (heights .entry)) (now (heights .exit)) (point (g .m) i) (heightAt (g .m) (now (heights .entry)) (point (g .m) i)) ⌝ }
+{
+    if Grid::is_void(heights[i]) {
+        let p = g.point(i);
+        height_of(g, p, heights);
+    }
+}
+
 pub fn fill(survey: &[i16], g: Grid, heights: &mut [i16])
     requires { ⌜ Sound g × (length (now survey) ≡ samples (g .m)) × (length (now heights) ≡ samples (g .m)) × Cornered (g .m) (now survey) ⌝ }
     ensures { λ _. ⌜ now (heights .exit) ≡ filled (g .m) (now (survey .entry)) ⌝ }
@@ -48,10 +60,7 @@ pub fn fill(survey: &[i16], g: Grid, heights: &mut [i16])
     copy(survey, heights);
     let mut i = 0;
     while i < heights.len() {
-        if Grid::is_void(heights[i]) {
-            let p = g.point(i);
-            height_of(g, p, heights);
-        }
+        settle(g, i, heights);
         i += 1;
     }
 }

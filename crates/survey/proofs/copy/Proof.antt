@@ -1,53 +1,70 @@
+-- `survey::copy` meets its contract. The invariant: below i the two agree, and the length stays.
+use mathlib.Core.Path.{_≡_, refl, sym, _∙_}
+use mathlib.Core.List.{List, [], _∷_, _++_}
+use Prim.Native.Nat.{ℕ, _+_, _-_, _≤_, _<_}
+use native.Mathlib.Omega.{arith}
+use native.Mathlib.Numerals.{add-one}
+use lib.ListN.{length, getD, take, set, length-set}
+use lib.Seq.{take-suc, take-suc-set, take-all}
+use lib.IntN.{ℤ, pos}
+use mir.Facts.{toZ-ofZ}
+use borrow.Author.Needs.{needs}
 use Rattle.survey.proofs.copy.Statement.{statement}
 use Rattle.survey.proofs.copy.Tie as tie
-use Rattle.survey.proofs.copy.Reads as reads
-use Rattle.survey.proofs.copy.Lts as lts
 
 abbrev Inv-loop : tie.InvT-loop
-Inv-loop survey heights₀ i₀ heights i = ?
+Inv-loop survey heights₀ i₀ heights i = (i ≤ length survey) × (length heights ≡ length heights₀) × (take i heights ≡ take i survey)
 
 abbrev μ-loop : tie.MeasureT-loop
-μ-loop survey heights₀ i₀ heights i = ?
+μ-loop survey heights₀ i₀ heights i = length survey - i
 
--- src/lib.rt:38:5
+-- one more entry agrees
+agree : (survey heights : List ℤ) (i : ℕ) (z : ℤ) → i < length survey → length heights ≡ length survey → z ≡ getD survey i (pos 0) →
+    take i heights ≡ take i survey → take (i + 1) (set heights i z) ≡ take (i + 1) survey
+agree survey heights i z l n e t =
+    rw (add-one i)
+    (take-suc-set heights i z (omega arith) ∙ (λ j. t j ++ (e j ∷ [])) ∙ sym (take-suc survey i (pos 0) l))
+
 loop-holds : tie.Need-loop-holds Inv-loop μ-loop
-loop-holds c = ?
+loop-holds c = (omega arith, refl, refl)
 
--- src/lib.rt:39:22
 mul-heights : tie.Need-mul-heights Inv-loop μ-loop
-mul-heights c = ?
+mul-heights c = search needs
 
--- src/lib.rt:39:22
 shared-slice-copy-out-heights : tie.Need-shared-slice-copy-out-heights Inv-loop μ-loop
-shared-slice-copy-out-heights c = ?
+shared-slice-copy-out-heights c = search needs
 
--- src/lib.rt:39:9
 mul-t8 : tie.Need-mul-t8 Inv-loop μ-loop
-mul-t8 c = ?
+mul-t8 c = search needs
 
--- src/lib.rt:39:9
 slice-set-from-heights : tie.Need-slice-set-from-heights Inv-loop μ-loop
-slice-set-from-heights c = ?
+slice-set-from-heights c = omega arith
 
--- src/lib.rt:40:9
 add-i : tie.Need-add-i Inv-loop μ-loop
-add-i c = ?
+add-i c = search needs
 
--- src/lib.rt:38:5
 loop-less : tie.Need-loop-less Inv-loop μ-loop
-loop-less c = ?
+loop-less c = omega arith
 
--- src/lib.rt:38:5
 loop-again : tie.Need-loop-again Inv-loop μ-loop
-loop-again c = ?
+loop-again c =
+    let at = c .before .before in (
+      omega arith,
+      simp length-set (at .loop .inv .1),
+      agree (at .before .args .survey .now) (at .loop .heights) (at .loop .i) _ (c .before .loop-test .taken) (at .loop .inv .1 ∙ at .before .pre)
+          (toZ-ofZ (record { sfits = c .heights .given }))
+          (at .loop .inv .2),
+    )
 
--- src/lib.rt:33:1
 same-length : tie.Need-same-length Inv-loop μ-loop
-same-length c = ?
+same-length c = c .before .loop .inv .1
 
--- src/lib.rt:33:1
 returns : tie.Need-returns Inv-loop μ-loop
-returns c = ?
+returns c =
+    let at = c .before in
+    let survey = at .before .args .survey .now in
+    let n : at .loop .i ≡ length survey = omega arith in
+    sym (take-all (at .loop .i) (at .loop .heights) (omega arith)) ∙ at .loop .inv .2 ∙ take-all (at .loop .i) survey (omega arith)
 
 pub copy-spec : {M : Type 1} → statement M
 copy-spec =

@@ -1,0 +1,4 @@
+pub mod Mean
+pub mod Filling
+pub mod Partial
+pub mod Sweep

@@ -1,0 +1,77 @@
+-- `survey::settle` meets its contract: a sample that is not void is its own height.
+use mathlib.Core.Path.{_≡_, refl, sym, ap, _∙_, subst}
+use mathlib.Core.Bool.{Bool, false}
+use mathlib.Core.List.{List}
+use Prim.Native.Nat.{ℕ, _<_}
+use lib.ListN.{length, getD}
+use lib.IntN.{ℤ, pos}
+use mir.Syntax.{w16}
+use mir.Val.{SFits, toZ, ofZ}
+use mir.Facts.{toZ-ofZ}
+use Rattle.grid.specs.Grid.{void, isVoid, samples, point, Inside}
+use Rattle.grid.specs.declared.points.Point.{Point}
+use Rattle.grid.proofs.Places.{point-inside}
+use Rattle.grid.proofs.OnGrid.{any-default}
+use Rattle.survey.specs.Filled.{sample, heightAt, Found}
+use Rattle.survey.proofs.Partial.{found-surveyed}
+use Rattle.survey.proofs.Sweep.{sample-place}
+use borrow.Author.Needs.{needs}
+use Rattle.survey.proofs.settle.Statement.{statement}
+use Rattle.survey.proofs.settle.Tie as tie
+
+-- what was found is the height
+named : (m : ℕ) (a b : List ℤ) (p q : Point) (r : ℤ) → p ≡ q → Found m a b p r → Found m a b q (heightAt m a q)
+named m a b p q r e f =
+    let g = subst (λ (z : ℤ). Found m a b p z) (f .height) f in subst (λ (s : Point). Found m a b s (heightAt m a s)) e g
+
+surveyed : (m : ℕ) (a : List ℤ) (i : ℕ) {t : Bool} → i < samples m → length a ≡ samples m → SFits w16 (getD a i (pos 0)) →
+    t ≡ isVoid (toZ w16 (ofZ w16 (getD a i (pos 0)))) → t ≡ false → Found m a a (point m i) (heightAt m a (point m i))
+surveyed m a i l n f e t =
+    let room : i < length a = rw n l in
+    let read : toZ w16 (ofZ w16 (getD a i (pos 0))) ≡ sample m a (point m i) =
+    toZ-ofZ f ∙ any-default a i (pos 0) void room ∙ sym (sample-place m a i) in
+    named m a a (point m i) (point m i) (sample m a (point m i)) refl (found-surveyed m a (point m i) (ap isVoid (sym read) ∙ sym e ∙ t))
+
+mul-is-void : tie.Need-mul-is-void
+mul-is-void c = search needs
+
+slice-copy-out-is-void : tie.Need-slice-copy-out-is-void
+slice-copy-out-is-void c = search needs
+
+is-void-requires : tie.Need-is-void-requires
+is-void-requires c κs = search needs
+
+point-requires : tie.Need-point-requires
+point-requires c κs = search needs
+
+height-of-requires : tie.Need-height-of-requires
+height-of-requires c κs =
+    let s = c .before .before .before .before .before in
+    let inside = subst (λ (p : Point). Inside (s .args .g .m) p) (sym (c .before .point .ensures)) (point-inside (s .args .g .m) (s .args .i) (s .pre .1)) in
+    (s .pre .0, inside, s .pre .2, s .pre .3)
+
+same-length : tie.Need-same-length
+same-length c = search needs
+
+returns : tie.Need-returns
+returns c = named _ _ _ _ _ _ (c .before .before .before .point .ensures) (c .before .height-of .ensures)
+
+returns-2 : tie.Need-returns-2
+returns-2 c =
+    let s = c .before .before .before in
+    surveyed (s .args .g .m) (s .args .heights .now) (s .args .i) (s .pre .1) (s .pre .2) (record { sfits = c .before .before .is-void-arg .given })
+    (c .before .is-void .ensures)
+    (c .if1 .left)
+
+pub settle-spec : {M : Type 1} → statement M
+settle-spec =
+    tie.close
+    (tie.spec
+    mul-is-void
+    slice-copy-out-is-void
+    is-void-requires
+    point-requires
+    height-of-requires
+    same-length
+    returns
+    returns-2)
