@@ -46,12 +46,15 @@ module _ (m : ℕ) (p : Point) (h : Inside m p) where
   ends-up = ends-up-by (isCorner m p) refl
 
   -- no depth is left at a grid corner only
-  no-depth : (t : Bool) → isCorner m p ≡ t → depth m p ≤ 0 → ends m p ≡ pair p p
-  no-depth true e l = corner-ends m p e
-  no-depth false e l = absurd (not-suc-le-zero (deep (level-below m p h e)))
+  pub depth-zero : depth m p ≤ 0 → isCorner m p ≡ true
+  depth-zero l = go (isCorner m p) refl
     where
-      deep : level m (p .x) (p .y) < m → suc (depth m p) ≤ 0
-      deep b = omega arith
+      go : (t : Bool) → isCorner m p ≡ t → isCorner m p ≡ true
+      go true e = e
+      go false e =
+          let b : level m (p .x) (p .y) < m = level-below m p h e in
+          let c : 1 ≤ 0 = omega arith in
+          absurd (not-suc-le-zero c)
 
 -- a choice between two equal heights
 cond-same : (t : Bool) {a b : ℤ} → a ≡ b → cond t a b ≡ b
@@ -63,7 +66,7 @@ module _ (m : ℕ) (survey : List ℤ) where
   more : (d : ℕ) (p : Point) → Inside m p → depth m p ≤ d → heightBy (suc d) m survey p ≡ heightBy d m survey p
   unfolding heightBy
   more zero p h l =
-      let e = no-depth m p h (isCorner m p) refl l in
+      let e = corner-ends m p (depth-zero m p h l) in
       cond-same (isVoid (sample m survey p))
       (ap (λ (q : Pair). floorMean (sample m survey (q .first)) (sample m survey (q .second))) e ∙ mean-itself (sample m survey p))
   more (suc d) p h l =

@@ -2,3 +2,4 @@ pub mod Mean
 pub mod Filling
 pub mod Partial
 pub mod Sweep
+pub mod Rule

@@ -1,0 +1,24 @@
+-- Document 01's sentences about filled heights, as one record: what `filled` is proved to mean. Definitions only.
+use mathlib.Core.Path.{_≡_}
+use mathlib.Core.Bool.{true, false}
+use mathlib.Core.List.{List}
+use Prim.Native.Nat.{ℕ, _<_}
+use lib.ListN.{length, getD}
+use lib.IntN.{ℤ}
+use lib.Signed.{mag}
+use Rattle.grid.specs.Grid.{void, isVoid, samples, Inside}
+use Rattle.grid.specs.Points.{ends}
+use Rattle.grid.specs.declared.points.Point.{Point}
+use Rattle.survey.specs.Filled.{floorMean, sample}
+
+-- heights are the filled heights of a survey: one for each sample; a surveyed sample keeps its height; the height of a void
+-- is the floor of the mean of its two ends' heights, voids among them
+pub record Fills (m : ℕ) (survey heights : List ℤ) : Type 0 where
+  pub long : length heights ≡ samples m
+  pub surveyed : (p : Point) → Inside m p → isVoid (sample m survey p) ≡ false → sample m heights p ≡ sample m survey p
+  pub void : (p : Point) → Inside m p → isVoid (sample m survey p) ≡ true →
+      sample m heights p ≡ floorMean (sample m heights (ends m p .first)) (sample m heights (ends m p .second))
+
+-- the samples are numbers of 16 bits, as a survey of the code has them
+abbrev pub Sixteen : List ℤ → Type 0
+Sixteen survey = (i : ℕ) → mag (getD survey i void) < 32768
