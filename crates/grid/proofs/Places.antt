@@ -1,16 +1,21 @@
 -- Places and points are inverse, a place is below the number of samples, and the place of a midpoint is half the sum of
 -- the places: a place is linear in its point.
-use mathlib.Core.Path.{_≡_, refl, sym, ap, _∙_, subst}
+use mathlib.Core.Path.{_≡_, refl, sym, ap, _∙_, subst⁻¹}
 use Prim.Native.Nat.{ℕ, zero, suc, _+_, _-_, _*_, _^_, _/_, _%_, _≤_, _<_}
 use native.Mathlib.Nat.{mul-add-div-right, mul-add-mod-self-right, div-eq-of-lt, mod-eq-of-lt, div-add-mod', mod-lt, div-lt-iff-lt-mul}
 use native.Mathlib.Nat.{mul-le-mul, mul-le-mul-right, one-mul, mul-assoc, add-mul, add-zero}
 use native.Mathlib.Omega.{arith}
 use lib.Pow.{pow-mono, pow-pos}
-use Rattle.grid.specs.Grid.{side, samples, at, place, point, middle, midplace, Inside, largest}
+use Rattle.grid.specs.Grid.{side, samples, at, place, point, middle, midplace, Inside, largest, gridOf, Sound}
+use Rattle.grid.specs.declared.Grid.{Grid}
 use Rattle.grid.specs.declared.points.Point.{Point}
 
 pub side-small : {m : ℕ} → m ≤ largest → side m ≤ 128
 side-small h = pow-mono h
+
+-- the grid of one of the eight sizes
+pub sound : {m : ℕ} {g : Grid} → m ≤ largest → g ≡ gridOf m → Sound g
+sound h e = subst⁻¹ Sound e (record { small = h; sided = refl })
 
 pub place-below : (m : ℕ) (p : Point) → Inside m p → place m p < samples m
 unfolding place
