@@ -65,14 +65,22 @@ site m p = record { kind = kind m p; spacing = spacing m p }
 abbrev pub pair : Point → Point → Pair
 pair p q = record { first = p; second = q }
 
+-- of the four points (x±s, y±s) the two on the rising diagonal, or the other two
+abbrev pub diagonal : Bool → ℕ → ℕ → ℕ → Pair
+diagonal true s x y = pair (at (x - s) (y - s)) (at (x + s) (y + s))
+diagonal false s x y = pair (at (x + s) (y - s)) (at (x - s) (y + s))
+
+abbrev pub both : Pair → List Point
+both e = e .first ∷ e .second ∷ []
+
 -- the ends of a point, the lower place first: the two points s away on the line that its kind names.
 -- A grid corner has no ends: the pair is the corner itself.
 abbrev pub endsBy : Kind → ℕ → ℕ → ℕ → Pair
 endsBy Corner s x y = pair (at x y) (at x y)
 endsBy EastWest s x y = pair (at (x - s) y) (at (x + s) y)
 endsBy NorthSouth s x y = pair (at x (y - s)) (at x (y + s))
-endsBy Rising s x y = pair (at (x - s) (y - s)) (at (x + s) (y + s))
-endsBy Falling s x y = pair (at (x + s) (y - s)) (at (x - s) (y + s))
+endsBy Rising s x y = diagonal true s x y
+endsBy Falling s x y = diagonal false s x y
 
 unfoldable pub ends : ℕ → Point → Pair
 ends m p = endsBy (kind m p) (spacing m p) (p .x) (p .y)
@@ -108,8 +116,8 @@ abbrev pub dependsBy : Kind → ℕ → ℕ → ℕ → ℕ → List Point
 dependsBy Corner n s x y = []
 dependsBy EastWest n s x y = inLine true x (near n s y)
 dependsBy NorthSouth n s x y = inLine false y (near n s x)
-dependsBy Rising n s x y = at (x + s) (y - s) ∷ at (x - s) (y + s) ∷ []
-dependsBy Falling n s x y = at (x - s) (y - s) ∷ at (x + s) (y + s) ∷ []
+dependsBy Rising n s x y = both (diagonal false s x y)
+dependsBy Falling n s x y = both (diagonal true s x y)
 
 unfoldable pub dependsOn : ℕ → Point → List Point
 dependsOn m p = dependsBy (kind m p) (side m) (spacing m p) (p .x) (p .y)

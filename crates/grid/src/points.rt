@@ -5,7 +5,7 @@ ghost use Prim.Native.Nat.{ℕ, _+_, _*_, _≤_, _<_};
 ghost use mathlib.Core.List.{_++_, _∷_, []};
 ghost use lib.ListN.{length};
 ghost use Rattle.grid.specs.Grid.{Sound, Inside, at};
-ghost use Rattle.grid.specs.Points.{units, isEnd, isCorner, site, pair, endsBy, ends, Back, near, laid, inLine, crossing, crossed, beside, dependsBy, dependsOn, dependentsBy, dependents, listed, Listed};
+ghost use Rattle.grid.specs.Points.{units, isEnd, isCorner, site, pair, diagonal, both, endsBy, ends, Back, near, laid, inLine, crossing, crossed, beside, dependsBy, dependsOn, dependentsBy, dependents, listed, Listed};
 
 // x cells east and y cells north of the south-west corner.
 pub struct Point {
@@ -130,6 +130,26 @@ pub fn site_of(g: Grid, p: Point) -> Site
     }
 }
 
+fn pair_of(ax: u32, ay: u32, bx: u32, by: u32) -> Pair
+    ensures { λ r. ⌜ r ≡ pair (at ax ay) (at bx by) ⌝ }
+{
+    Pair {
+        first: Point { x: ax, y: ay },
+        second: Point { x: bx, y: by },
+    }
+}
+
+// Of the four points around a centre, the two on one diagonal.
+fn diagonal(rising: bool, s: u32, x: u32, y: u32) -> Pair
+    requires { ⌜ (s ≤ x) × (s ≤ y) × (x ≤ 128) × (y ≤ 128) ⌝ }
+    ensures { λ r. ⌜ r ≡ diagonal rising s x y ⌝ }
+{
+    if rising {
+        return pair_of(x - s, y - s, x + s, y + s);
+    }
+    pair_of(x + s, y - s, x - s, y + s)
+}
+
 // The two points s away on the line that the kind names.
 fn ends_by(kind: Kind, s: u32, x: u32, y: u32) -> Pair
     requires { ⌜ (s ≤ 128) × (x ≤ 128) × (y ≤ 128) × Back kind s x y ⌝ }
@@ -139,17 +159,8 @@ fn ends_by(kind: Kind, s: u32, x: u32, y: u32) -> Pair
         Kind::Corner => pair_of(x, y, x, y),
         Kind::EastWest => pair_of(x - s, y, x + s, y),
         Kind::NorthSouth => pair_of(x, y - s, x, y + s),
-        Kind::Rising => pair_of(x - s, y - s, x + s, y + s),
-        Kind::Falling => pair_of(x + s, y - s, x - s, y + s),
-    }
-}
-
-fn pair_of(ax: u32, ay: u32, bx: u32, by: u32) -> Pair
-    ensures { λ r. ⌜ r ≡ pair (at ax ay) (at bx by) ⌝ }
-{
-    Pair {
-        first: Point { x: ax, y: ay },
-        second: Point { x: bx, y: by },
+        Kind::Rising => diagonal(true, s, x, y),
+        Kind::Falling => diagonal(false, s, x, y),
     }
 }
 
@@ -184,13 +195,10 @@ impl Few {
     }
 }
 
-// Two points.
-fn two(ax: u32, ay: u32, bx: u32, by: u32) -> Few
-    ensures { λ r. ⌜ Listed r (at ax ay ∷ at bx by ∷ []) ⌝ }
+fn both(e: Pair) -> Few
+    ensures { λ r. ⌜ Listed r (both e) ⌝ }
 {
-    Few::none()
-        .with(Point { x: ax, y: ay })
-        .with(Point { x: bx, y: by })
+    Few::none().with(e.first).with(e.second)
 }
 
 fn laid(turned: bool, a: u32, b: u32) -> Point
@@ -253,7 +261,7 @@ fn beside(s: u32, x: u32, y: u32) -> Few
     requires { ⌜ (s ≤ x) × (s ≤ y) × (x ≤ 128) × (y ≤ 128) ⌝ }
     ensures { λ r. ⌜ Listed r (beside s x y) ⌝ }
 {
-    let low = two(x, y - s, x - s, y);
+    let low = both(pair_of(x, y - s, x - s, y));
     let three = low.with(Point { x: x + s, y });
     three.with(Point { x, y: y + s })
 }
@@ -267,8 +275,8 @@ fn depends_by(kind: Kind, n: u32, s: u32, x: u32, y: u32) -> Few
         Kind::Corner => few,
         Kind::EastWest => in_line(few, true, n, s, y, x),
         Kind::NorthSouth => in_line(few, false, n, s, x, y),
-        Kind::Rising => two(x + s, y - s, x - s, y + s),
-        Kind::Falling => two(x - s, y - s, x + s, y + s),
+        Kind::Rising => both(diagonal(false, s, x, y)),
+        Kind::Falling => both(diagonal(true, s, x, y)),
     }
 }
 

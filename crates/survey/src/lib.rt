@@ -3,14 +3,21 @@ use grid::Grid;
 use grid::points::Point;
 ghost use mathlib.Core.Path.{_≡_};
 ghost use lib.ListN.{length};
-ghost use Prim.Native.Nat.{_<_};
+ghost use Prim.Native.Nat.{_/_, _<_};
 ghost use Rattle.grid.specs.Grid.{Sound, Inside, samples, point};
 ghost use Rattle.survey.specs.Filled.{floorMean, heightAt, filled, Cornered, Found};
+
+// Counted from the void mark no sum is below zero, so plain division is the floor.
+fn halved(sum: u32) -> u32
+    ensures { λ r. ⌜ r ≡ sum / 2 ⌝ }
+{
+    sum / 2
+}
 
 pub fn floor_mean(a: i16, b: i16) -> i16
     ensures { λ r. ⌜ r ≡ floorMean a b ⌝ }
 {
-    Grid::lowered((Grid::raised(a) + Grid::raised(b)) / 2)
+    Grid::lowered(halved(Grid::raised(a) + Grid::raised(b)))
 }
 
 // Recurses to the ends; what was found is kept in heights, so that no height is worked out twice.

@@ -34,8 +34,8 @@ raised-requires c κs = search needs
 raised-requires-2 : tie.Need-raised-requires-2
 raised-requires-2 c κs = search needs
 
-add-lowered : tie.Need-add-lowered
-add-lowered c =
+add-halved : tie.Need-add-halved
+add-halved c =
     let s = c .before .before in
     omega (
       arith,
@@ -45,19 +45,24 @@ add-lowered c =
       passed (s .fits .b) (c .raised2 .ensures),
     )
 
+halved-requires : tie.Need-halved-requires
+halved-requires c κs = search needs
+
 lowered-requires : tie.Need-lowered-requires
 lowered-requires c κs =
-    let s = c .before .before in
-    small (s .args .a) (s .args .b) _ _ (s .fits .a .sfits) (s .fits .b .sfits) (passed (s .fits .a) (c .before .raised .ensures)) (passed (s .fits .b) (c .raised2 .ensures))
+    let s = c .before .before .before in
+    rw (c .halved .ensures)
+    (small (s .args .a) (s .args .b) _ _ (s .fits .a .sfits) (s .fits .b .sfits) (passed (s .fits .a) (c .before .before .raised .ensures))
+    (passed (s .fits .b) (c .before .raised2 .ensures)))
 
 returns : tie.Need-returns
 returns c =
-    let s = c .before .before .before in
-    value (s .args .a) (s .args .b) _ _ (s .fits .a .sfits) (s .fits .b .sfits) (passed (s .fits .a) (c .before .before .raised .ensures))
-    (passed (s .fits .b) (c .before .raised2 .ensures))
+    let s = c .before .before .before .before in
+    value (s .args .a) (s .args .b) _ _ (s .fits .a .sfits) (s .fits .b .sfits) (passed (s .fits .a) (c .before .before .before .raised .ensures))
+    (passed (s .fits .b) (c .before .before .raised2 .ensures))
     _
-    (c .lowered .ensures)
+    (c .lowered .ensures ∙ ap lower (c .before .halved .ensures))
 
 pub floor-mean-spec : {M : Type 1} → statement M
 floor-mean-spec =
-    tie.close (tie.spec raised-requires raised-requires-2 add-lowered lowered-requires returns)
+    tie.close (tie.spec raised-requires raised-requires-2 add-halved halved-requires lowered-requires returns)

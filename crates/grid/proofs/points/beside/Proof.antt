@@ -1,38 +1,54 @@
 -- `grid::points::beside` meets its contract: two points, then a third and a fourth.
+use mathlib.Core.Path.{ap}
 use native.Mathlib.Omega.{arith}
-use Rattle.grid.proofs.Near.{listed-then}
+use Rattle.grid.specs.Points.{both}
+use Rattle.grid.proofs.Near.{relist, listed-then}
 use borrow.Author.Needs.{needs}
 use Rattle.grid.proofs.points.beside.Statement.{statement}
 use Rattle.grid.proofs.points.beside.Tie as tie
 
-sub-two : tie.Need-sub-two
-sub-two c = search needs
+sub-pair-of : tie.Need-sub-pair-of
+sub-pair-of c = search needs
 
-sub-two-2 : tie.Need-sub-two-2
-sub-two-2 c = search needs
+sub-pair-of-2 : tie.Need-sub-pair-of-2
+sub-pair-of-2 c = search needs
 
-two-requires : tie.Need-two-requires
-two-requires c κs = search needs
+pair-of-requires : tie.Need-pair-of-requires
+pair-of-requires c κs = search needs
 
-add-t6 : tie.Need-add-t6
-add-t6 c = search needs
-
-with-requires : tie.Need-with-requires
-with-requires c κs = search needs
+both-requires : tie.Need-both-requires
+both-requires c κs = search needs
 
 add-t7 : tie.Need-add-t7
 add-t7 c = search needs
 
+with-requires : tie.Need-with-requires
+with-requires c κs = search needs
+
+add-t8 : tie.Need-add-t8
+add-t8 c = search needs
+
 with-requires-2 : tie.Need-with-requires-2
 with-requires-2 c κs =
-    let three = listed-then _ (c .before .two .ensures) (c .with .ensures) in
+    let low = relist (c .before .both .ensures) (ap both (c .before .before .pair-of .ensures)) in
+    let three = listed-then _ low (c .with .ensures) in
     (omega (arith, three .count), three .room)
 
 returns : tie.Need-returns
 returns c =
-    listed-then _ (listed-then _ (c .before .before .two .ensures) (c .before .with .ensures)) (c .with2 .ensures)
+    let low = relist (c .before .before .both .ensures) (ap both (c .before .before .before .pair-of .ensures)) in
+    listed-then _ (listed-then _ low (c .before .with .ensures)) (c .with2 .ensures)
 
 pub beside-spec : {M : Type 1} → statement M
 beside-spec =
     tie.close
-    (tie.spec sub-two sub-two-2 two-requires add-t6 with-requires add-t7 with-requires-2 returns)
+    (tie.spec
+    sub-pair-of
+    sub-pair-of-2
+    pair-of-requires
+    both-requires
+    add-t7
+    with-requires
+    add-t8
+    with-requires-2
+    returns)

@@ -1,5 +1,7 @@
 -- `grid::points::depends_by` meets its contract, kind by kind.
-use Rattle.grid.proofs.Near.{listed-then}
+use mathlib.Core.Path.{ap}
+use Rattle.grid.specs.Points.{both}
+use Rattle.grid.proofs.Near.{relist, listed-then}
 use borrow.Author.Needs.{needs}
 use Rattle.grid.proofs.points.depends_by.Statement.{statement}
 use Rattle.grid.proofs.points.depends_by.Tie as tie
@@ -25,38 +27,24 @@ in-line-requires-2 c κs = search needs
 enum-told-4 : tie.Need-enum-told-4
 enum-told-4 c = search needs
 
-add-two : tie.Need-add-two
-add-two c = search needs
+diagonal-requires : tie.Need-diagonal-requires
+diagonal-requires c κs =
+    let back = rw (c .enum-told4 .given .1) at (c .before .before .before .pre .3) in
+    (back .0, back .1, c .before .before .before .pre .1, c .before .before .before .pre .2)
 
-sub-two : tie.Need-sub-two
-sub-two c = (rw (c .enum-told4 .given .1) at (c .before .before .before .pre .3)) .1
-
-sub-two-2 : tie.Need-sub-two-2
-sub-two-2 c = (rw (c .enum-told4 .given .1) at (c .before .before .before .pre .3)) .0
-
-add-two-2 : tie.Need-add-two-2
-add-two-2 c = search needs
-
-two-requires : tie.Need-two-requires
-two-requires c κs = search needs
+both-requires : tie.Need-both-requires
+both-requires c κs = search needs
 
 enum-told-5 : tie.Need-enum-told-5
 enum-told-5 c = search needs
 
-sub-two-3 : tie.Need-sub-two-3
-sub-two-3 c = (rw (c .enum-told5 .given .1) at (c .before .before .before .pre .3)) .0
+diagonal-requires-2 : tie.Need-diagonal-requires-2
+diagonal-requires-2 c κs =
+    let back = rw (c .enum-told5 .given .1) at (c .before .before .before .pre .3) in
+    (back .0, back .1, c .before .before .before .pre .1, c .before .before .before .pre .2)
 
-sub-two-4 : tie.Need-sub-two-4
-sub-two-4 c = (rw (c .enum-told5 .given .1) at (c .before .before .before .pre .3)) .1
-
-add-two-3 : tie.Need-add-two-3
-add-two-3 c = search needs
-
-add-two-4 : tie.Need-add-two-4
-add-two-4 c = search needs
-
-two-requires-2 : tie.Need-two-requires-2
-two-requires-2 c κs = search needs
+both-requires-2 : tie.Need-both-requires-2
+both-requires-2 c κs = search needs
 
 returns : tie.Need-returns
 returns c = search needs
@@ -68,10 +56,10 @@ returns-3 : tie.Need-returns-3
 returns-3 c = rw (c .before .enum-told3 .given .1) (listed-then _ (c .before .before .before .none .ensures) (c .in-line2 .ensures))
 
 returns-4 : tie.Need-returns-4
-returns-4 c = rw (c .before .enum-told4 .given .1) (c .two .ensures)
+returns-4 c = rw (c .before .before .enum-told4 .given .1) (relist (c .both .ensures) (ap both (c .before .diagonal .ensures)))
 
 returns-5 : tie.Need-returns-5
-returns-5 c = rw (c .before .enum-told5 .given .1) (c .two2 .ensures)
+returns-5 c = rw (c .before .before .enum-told5 .given .1) (relist (c .both2 .ensures) (ap both (c .before .diagonal2 .ensures)))
 
 pub depends-by-spec : {M : Type 1} → statement M
 depends-by-spec =
@@ -84,17 +72,11 @@ depends-by-spec =
     enum-told-3
     in-line-requires-2
     enum-told-4
-    add-two
-    sub-two
-    sub-two-2
-    add-two-2
-    two-requires
+    diagonal-requires
+    both-requires
     enum-told-5
-    sub-two-3
-    sub-two-4
-    add-two-3
-    add-two-4
-    two-requires-2
+    diagonal-requires-2
+    both-requires-2
     returns
     returns-2
     returns-3

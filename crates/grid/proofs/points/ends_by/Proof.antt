@@ -13,7 +13,7 @@ enum-told-2 : tie.Need-enum-told-2
 enum-told-2 c = search needs
 
 sub-pair-of : tie.Need-sub-pair-of
-sub-pair-of c = (rw (c .enum-told2 .given .1) at (c .before .before .pre .3))
+sub-pair-of c = rw (c .enum-told2 .given .1) at (c .before .before .pre .3)
 
 add-pair-of : tie.Need-add-pair-of
 add-pair-of c = search needs
@@ -25,7 +25,7 @@ enum-told-3 : tie.Need-enum-told-3
 enum-told-3 c = search needs
 
 sub-pair-of-2 : tie.Need-sub-pair-of-2
-sub-pair-of-2 c = (rw (c .enum-told3 .given .1) at (c .before .before .pre .3))
+sub-pair-of-2 c = rw (c .enum-told3 .given .1) at (c .before .before .pre .3)
 
 add-pair-of-2 : tie.Need-add-pair-of-2
 add-pair-of-2 c = search needs
@@ -36,38 +36,18 @@ pair-of-requires-3 c κs = search needs
 enum-told-4 : tie.Need-enum-told-4
 enum-told-4 c = search needs
 
-sub-pair-of-3 : tie.Need-sub-pair-of-3
-sub-pair-of-3 c = (rw (c .enum-told4 .given .1) at (c .before .before .pre .3)) .0
-
-sub-pair-of-4 : tie.Need-sub-pair-of-4
-sub-pair-of-4 c = (rw (c .enum-told4 .given .1) at (c .before .before .pre .3)) .1
-
-add-pair-of-3 : tie.Need-add-pair-of-3
-add-pair-of-3 c = search needs
-
-add-pair-of-4 : tie.Need-add-pair-of-4
-add-pair-of-4 c = search needs
-
-pair-of-requires-4 : tie.Need-pair-of-requires-4
-pair-of-requires-4 c κs = search needs
+diagonal-requires : tie.Need-diagonal-requires
+diagonal-requires c κs =
+    let back = rw (c .enum-told4 .given .1) at (c .before .before .pre .3) in
+    (back .0, back .1, c .before .before .pre .1, c .before .before .pre .2)
 
 enum-told-5 : tie.Need-enum-told-5
 enum-told-5 c = search needs
 
-add-pair-of-5 : tie.Need-add-pair-of-5
-add-pair-of-5 c = search needs
-
-sub-pair-of-5 : tie.Need-sub-pair-of-5
-sub-pair-of-5 c = (rw (c .enum-told5 .given .1) at (c .before .before .pre .3)) .1
-
-sub-pair-of-6 : tie.Need-sub-pair-of-6
-sub-pair-of-6 c = (rw (c .enum-told5 .given .1) at (c .before .before .pre .3)) .0
-
-add-pair-of-6 : tie.Need-add-pair-of-6
-add-pair-of-6 c = search needs
-
-pair-of-requires-5 : tie.Need-pair-of-requires-5
-pair-of-requires-5 c κs = search needs
+diagonal-requires-2 : tie.Need-diagonal-requires-2
+diagonal-requires-2 c κs =
+    let back = rw (c .enum-told5 .given .1) at (c .before .before .pre .3) in
+    (back .0, back .1, c .before .before .pre .1, c .before .before .pre .2)
 
 returns : tie.Need-returns
 returns c = rw (c .before .enum-told .given .1) (c .pair-of .ensures)
@@ -79,10 +59,10 @@ returns-3 : tie.Need-returns-3
 returns-3 c = rw (c .before .enum-told3 .given .1) (c .pair-of3 .ensures)
 
 returns-4 : tie.Need-returns-4
-returns-4 c = rw (c .before .enum-told4 .given .1) (c .pair-of4 .ensures)
+returns-4 c = rw (c .before .enum-told4 .given .1) (c .diagonal .ensures)
 
 returns-5 : tie.Need-returns-5
-returns-5 c = rw (c .before .enum-told5 .given .1) (c .pair-of5 .ensures)
+returns-5 c = rw (c .before .enum-told5 .given .1) (c .diagonal2 .ensures)
 
 pub ends-by-spec : {M : Type 1} → statement M
 ends-by-spec =
@@ -99,17 +79,9 @@ ends-by-spec =
     add-pair-of-2
     pair-of-requires-3
     enum-told-4
-    sub-pair-of-3
-    sub-pair-of-4
-    add-pair-of-3
-    add-pair-of-4
-    pair-of-requires-4
+    diagonal-requires
     enum-told-5
-    add-pair-of-5
-    sub-pair-of-5
-    sub-pair-of-6
-    add-pair-of-6
-    pair-of-requires-5
+    diagonal-requires-2
     returns
     returns-2
     returns-3

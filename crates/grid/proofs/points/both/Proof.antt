@@ -1,10 +1,9 @@
--- `grid::points::two` meets its contract: none, then one, then another.
-use Prim.Native.Nat.{ℕ}
+-- `grid::points::both` meets its contract: none, then the first, then the second.
 use native.Mathlib.Omega.{arith}
-use borrow.Author.Needs.{needs}
 use Rattle.grid.proofs.Near.{listed-then}
-use Rattle.grid.proofs.points.two.Statement.{statement}
-use Rattle.grid.proofs.points.two.Tie as tie
+use borrow.Author.Needs.{needs}
+use Rattle.grid.proofs.points.both.Statement.{statement}
+use Rattle.grid.proofs.points.both.Tie as tie
 
 none-requires : tie.Need-none-requires
 none-requires c κs = search needs
@@ -20,5 +19,5 @@ with-requires-2 c κs =
 returns : tie.Need-returns
 returns c = listed-then _ (listed-then _ (c .before .before .none .ensures) (c .before .with .ensures)) (c .with2 .ensures)
 
-pub two-spec : {M : Type 1} → statement M
-two-spec = tie.close (tie.spec none-requires with-requires with-requires-2 returns)
+pub both-spec : {M : Type 1} → statement M
+both-spec = tie.close (tie.spec none-requires with-requires with-requires-2 returns)
