@@ -8,3 +8,4 @@ pub mod Near
 pub mod Room
 pub mod Sited
 pub mod Coarser
+pub mod Units
