@@ -9,3 +9,5 @@ pub mod Room
 pub mod Sited
 pub mod Coarser
 pub mod Units
+pub mod Members
+pub mod Around
