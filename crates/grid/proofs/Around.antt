@@ -17,8 +17,8 @@ use Rattle.grid.specs.declared.points.Kind.the-variants.{EastWest, North
 use Rattle.grid.proofs.Parity.{Sort, eastWest, northSouth, rising, falling}
 use Rattle.grid.proofs.Room.{reach}
 use Rattle.grid.proofs.Coarser.{Neighbours, neighbours}
-use Rattle.grid.proofs.Units.{Times}
-use Rattle.grid.proofs.Members.{choose, All, all, Close, Stepped, near-in, near-of, line-in, line-of}
+use Rattle.grid.proofs.Units.{choose, Times}
+use Rattle.grid.proofs.Members.{All, all, Close, Stepped, near-in, near-of, line-in, line-of}
 
 -- (u, v) is an end of (a, b): even both ways; of a centre, counted in units of 2s, both even or both odd
 pub record Ended (a b u v : ℕ) : Type 0 where

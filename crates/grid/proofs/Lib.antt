@@ -11,3 +11,5 @@ pub mod Coarser
 pub mod Units
 pub mod Members
 pub mod Around
+pub mod Placed
+pub mod Dependence

@@ -14,11 +14,7 @@ use borrow.Author.Tests.{le-leb, leb-true}
 use Rattle.grid.specs.Grid.{at}
 use Rattle.grid.specs.Points.{near, each, laid, inLine, crossing}
 use Rattle.grid.specs.declared.points.Point.{Point}
-
--- one of two, as a test decides
-pub choose : {A B D : Type 0} → Dec D → (D → A) → ((D → ⊥) → B) → A ⊎ B
-choose (yes d) f g = inl (f d)
-choose (no d) f g = inr (g d)
+use Rattle.grid.proofs.Units.{choose}
 
 -- every point of a list is P
 abbrev pub All : (Point → Type 0) → List Point → Type 0

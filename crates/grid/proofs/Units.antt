@@ -17,6 +17,11 @@ use Rattle.grid.proofs.Level.{level-units, level-most, level-largest}
 use Rattle.grid.proofs.Spaced.{level-below}
 use Rattle.grid.proofs.Parity.{even-false, odd-true}
 
+-- one of two, as a test decides
+pub choose : {A B D : Type 0} → Dec D → (D → A) → ((D → ⊥) → B) → A ⊎ B
+choose (yes d) f g = inl (f d)
+choose (no d) f g = inr (g d)
+
 end-divided : (m c : ℕ) → T (isEnd m c) → c % side m ≡ 0
 end-divided m c t = ends (eqb c 0) refl t
   where
@@ -56,6 +61,9 @@ pub record Measured (m : ℕ) (p : Point) (j a b : ℕ) : Type 0 where
 abbrev pub Odd : ℕ → ℕ → Type 0
 Odd a b = (a % 2 ≡ 1) ⊎ (b % 2 ≡ 1)
 
+pub odd-by : (n k : ℕ) → n ≡ 2 * k + 1 → n % 2 ≡ 1
+odd-by n k e = omega arith
+
 pub at-units : (m j a b : ℕ) {p : Point} → j ≤ m → Times (2 ^ j) a b p → Odd a b → Measured m p j a b
 unfolding spacing units
 at-units m j a b {p} l t o =
@@ -81,6 +89,9 @@ form a b o = by (ℕ-discrete ((a + b) % 2) 1) o
     by (yes e) o = edge e
     by (no e) (inl oa) = centre oa (omega arith)
     by (no e) (inr ob) = centre (omega arith) ob
+
+pub edge-odd : (a b : ℕ) → (a + b) % 2 ≡ 1 → Odd a b
+edge-odd a b e = choose (ℕ-discrete (a % 2) 1) (λ o. o) (λ n. omega arith)
 
 bit-edge : (a b : ℕ) → (a + b) % 2 ≡ 1 → Dec (a % 2 ≡ 1) → centreBit (odd a) (odd b) ≡ 0
 bit-edge a b e (yes o) = rw (odd-true a o, even-false b (omega arith))
