@@ -13,3 +13,4 @@ pub mod Members
 pub mod Around
 pub mod Placed
 pub mod Dependence
+pub mod Cutting
