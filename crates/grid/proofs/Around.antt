@@ -36,11 +36,11 @@ pub record Depended (a b u v : ℕ) : Type 0 where
   pub edge : (a + b) % 2 ≡ 1 → (u % 2 ≡ 1) × (v % 2 ≡ 1)
   pub centre : a % 2 ≡ 1 → b % 2 ≡ 1 → (u % 2 ≡ 0) × (v % 2 ≡ 0) × ((u + v) % 4 ≡ 2)
 
--- (u, v) is one unit from (a, b) along an axis
+-- (u, v) is one unit from a centre (a, b) along an axis: just one of the two odd
 pub record Beside (a b u v : ℕ) : Type 0 where
   pub east : Close u a
   pub north : Close v b
-  pub other : (u + v + a + b) % 2 ≡ 1
+  pub other : (u + v) % 2 ≡ 1
 
 -- q, counted in units of s, stands in the relation R
 pub record Stands (R : ℕ → ℕ → Type 0) (s : ℕ) (q : Point) : Type 0 where

@@ -15,7 +15,7 @@ use Rattle.grid.specs.declared.points.Pair.{Pair}
 use Rattle.grid.specs.declared.points.Kind.{Kind}
 use Rattle.grid.specs.declared.points.Kind.the-variants.{Corner, EastWest, NorthSouth, Rising, Falling}
 use Rattle.grid.proofs.Room.{room, behind}
-use Rattle.grid.proofs.Units.{Times, Measured, Odd, odd-by, Form, edge, centre, form, edge-odd, rank-edge, rank-centre}
+use Rattle.grid.proofs.Units.{Times, Measured, Odd, odd-by, one-odd, double-sum, Form, edge, centre, form, edge-odd, rank-edge, rank-centre}
 use Rattle.grid.proofs.Members.{Close}
 use Rattle.grid.proofs.Around.{Ended, Depended, Stands, twoOf, same-point}
 use Rattle.grid.proofs.Placed.{doubled, Placed, placed, measured, inner, ends-are, depends-are}
@@ -139,17 +139,8 @@ close-half : {a u w : ℕ} → Close u a → Close w a → u % 2 ≡ 0 → w % 2
 close-half f g e o = omega arith
 
 -- parities
-one-odd : (c d : ℕ) → (c + d) % 2 ≡ 1 → c % 2 ≡ 1 → d % 2 ≡ 1 → ⊥
-one-odd c d o oc od = omega arith
-
 even-odd : (u w : ℕ) → u % 2 ≡ 0 → w % 2 ≡ 1 → (u + w) % 2 ≡ 1
 even-odd u w e o = omega arith
-
-double-sum : (u v r : ℕ) → (u + v) % 2 ≡ r → (2 * u + 2 * v) % 4 ≡ 2 * r
-double-sum u v r e = by (2 * u + 2 * v) ((u + v) / 2) (2 * r) (omega arith) (omega arith)
-  where
-    by : (n k i : ℕ) → n ≡ 4 * k + i → i < 4 → n % 4 ≡ i
-    by n k i f l = omega arith
 
 double-alike : (u v : ℕ) → u % 2 ≡ v % 2 → (2 * u + 2 * v) % 4 ≡ 0
 double-alike u v e = double-sum u v 0 (omega arith)

@@ -64,6 +64,15 @@ Odd a b = (a % 2 ≡ 1) ⊎ (b % 2 ≡ 1)
 pub odd-by : (n k : ℕ) → n ≡ 2 * k + 1 → n % 2 ≡ 1
 odd-by n k e = omega arith
 
+pub one-odd : (c d : ℕ) → (c + d) % 2 ≡ 1 → c % 2 ≡ 1 → d % 2 ≡ 1 → ⊥
+one-odd c d o oc od = omega arith
+
+pub double-sum : (u v r : ℕ) → (u + v) % 2 ≡ r → (2 * u + 2 * v) % 4 ≡ 2 * r
+double-sum u v r e = by (2 * u + 2 * v) ((u + v) / 2) (2 * r) (omega arith) (omega arith)
+  where
+    by : (n k i : ℕ) → n ≡ 4 * k + i → i < 4 → n % 4 ≡ i
+    by n k i f l = omega arith
+
 pub at-units : (m j a b : ℕ) {p : Point} → j ≤ m → Times (2 ^ j) a b p → Odd a b → Measured m p j a b
 unfolding spacing units
 at-units m j a b {p} l t o =
