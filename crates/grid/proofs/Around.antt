@@ -1,15 +1,15 @@
 -- The ends of a point, the points it depends on and its dependents, counted in units of spacing: at most one unit away both
 -- ways, told apart by parities alone. So a claim on which points are which is one on small numbers, and `omega` proves it.
-use mathlib.Core.Path.{_≡_, refl, sym, ap, _∙_, subst}
-use mathlib.Core.Bool.{Bool, true, false}
+use mathlib.Core.Path.{_≡_, refl, sym, ap, _∙_}
+use mathlib.Core.Bool.{true, false}
 use mathlib.Core.List.{List, [], _∷_, List·Memᴰ, List·Memᴰ·head, List·Memᴰ·tail}
-use mathlib.Core.Logic.{_⊎_, inl, inr, ⊎-elim, _↔_, _≢_}
-use Prim.Native.Nat.{ℕ, zero, suc, _+_, _-_, _*_, _^_, _/_, _%_, _≤_, _<_}
+use mathlib.Core.Logic.{_⊎_, inl, inr, ⊎-elim, _↔_}
+use Prim.Native.Nat.{ℕ, _+_, _-_, _*_, _%_, _≤_, _<_}
 use native.Mathlib.Nat.{le-of-mul-le-mul-left, mul-le-mul-left}
 use native.Mathlib.Decide.{decLt}
 use native.Mathlib.Omega.{arith}
 use Rattle.grid.specs.Grid.{side, at, Inside}
-use Rattle.grid.specs.Points.{units, kind, near, endsBy, dependsBy, beside, crossing}
+use Rattle.grid.specs.Points.{units, kind, endsBy, dependsBy, beside}
 use Rattle.grid.specs.declared.points.Point.{Point}
 use Rattle.grid.specs.declared.points.Pair.{Pair}
 use Rattle.grid.specs.declared.points.Kind.{Kind}
@@ -17,8 +17,9 @@ use Rattle.grid.specs.declared.points.Kind.the-variants.{EastWest, North
 use Rattle.grid.proofs.Parity.{Sort, eastWest, northSouth, rising, falling}
 use Rattle.grid.proofs.Room.{reach}
 use Rattle.grid.proofs.Coarser.{Neighbours, neighbours}
-use Rattle.grid.proofs.Units.{choose, Times}
-use Rattle.grid.proofs.Members.{All, all, Close, Stepped, near-in, near-of, line-in, line-of}
+use Rattle.grid.proofs.Sums.{choose, one-odd, even-odd, odd-left, sum-alike, sum-unlike, Close, close-equal}
+use Rattle.grid.proofs.Units.{Times}
+use Rattle.grid.proofs.Members.{all, Axis, Stepped, line-is}
 
 -- (u, v) is an end of (a, b): even both ways; of a centre, counted in units of 2s, both even or both odd
 pub record Ended (a b u v : ℕ) : Type 0 where
@@ -56,19 +57,6 @@ pub data Way (a b : ℕ) : Kind → Type 0 where
   rise : a % 2 ≡ 1 → b % 2 ≡ 1 → (a + b) % 4 ≡ 2 → Way a b Rising
   fall : a % 2 ≡ 1 → b % 2 ≡ 1 → (a + b) % 4 ≡ 0 → Way a b Falling
 
--- two odd numbers by whether their halves are alike
-sum-alike : (a b : ℕ) → a % 2 ≡ 1 → b % 2 ≡ 1 → a / 2 % 2 ≡ b / 2 % 2 → (a + b) % 4 ≡ 2
-sum-alike a b oa ob e =
-    let f : (a / 2 + b / 2) % 2 ≡ 0 = omega arith in
-    let g : a + b ≡ 4 * ((a / 2 + b / 2) / 2) + 2 = omega arith in
-    omega arith
-
-sum-unlike : (a b : ℕ) → a % 2 ≡ 1 → b % 2 ≡ 1 → a / 2 % 2 ≢ b / 2 % 2 → (a + b) % 4 ≡ 0
-sum-unlike a b oa ob e =
-    let f : (a / 2 + b / 2) % 2 ≡ 1 = omega arith in
-    let g : a + b ≡ 4 * ((a / 2 + b / 2) / 2) + 4 = omega arith in
-    omega arith
-
 pub way : {m : ℕ} {p : Point} → Sort m p → Way (units m p .across) (units m p .up) (kind m p)
 way (eastWest k oa eb) = rw k (row oa eb)
 way (northSouth k ea ob) = rw k (column ea ob)
@@ -95,32 +83,44 @@ two R {s} {u₁} {v₁} {u₂} {v₂} {p₁} {p₂} t₁ t₂ r₁ r₂ only = (
       (only (k .across) (k .up) (k .holds)),
 )
 
+-- of an edge point: what is even both ways, what is odd both ways
+module _ {a b u v : ℕ} (o : (a + b) % 2 ≡ 1) (cu : Close u a) (cv : Close v b) where
+  pub edge-ended : u % 2 ≡ 0 → v % 2 ≡ 0 → Ended a b u v
+  edge-ended eu ev = record { east = cu; north = cv; across = eu; up = ev; alike = λ oa ob. absurd (one-odd a b o oa ob) }
+
+  pub edge-depended : u % 2 ≡ 1 → v % 2 ≡ 1 → Depended a b u v
+  edge-depended ou ov = record { east = cu; north = cv; edge = λ _. (ou, ov); centre = λ oa ob. absurd (one-odd a b o oa ob) }
+
 -- of a centre (a, b): (u, v) lies one unit away both ways, and its sum is r more than a multiple of 4
-record Diagonal (r a b u v : ℕ) : Type 0 where
-  east : Close u a
-  north : Close v b
-  across : u % 2 ≡ 0
-  up : v % 2 ≡ 0
-  turn : (u + v) % 4 ≡ r
+pub record Diagonal (r a b u v : ℕ) : Type 0 where
+  pub east : Close u a
+  pub north : Close v b
+  pub across : u % 2 ≡ 0
+  pub up : v % 2 ≡ 0
+  pub turn : (u + v) % 4 ≡ r
 
-module _ (a b r : ℕ) (oa : a % 2 ≡ 1) (ob : b % 2 ≡ 1) where
-  same-way : (a + b + 2) % 4 ≡ r → (u v : ℕ) → Diagonal r a b u v → ((u ≡ a - 1) × (v ≡ b - 1)) ⊎ ((u ≡ a + 1) × (v ≡ b + 1))
-  same-way e u v d = choose (decLt u a) (λ l. omega arith) (λ l. omega arith)
+pub twice-diagonal : {r a b : ℕ} (u v : ℕ) → Close (2 * u) a → Close (2 * v) b → (2 * u + 2 * v) % 4 ≡ r → Diagonal r a b (2 * u) (2 * v)
+twice-diagonal u v x y t = record { east = x; north = y; across = omega arith; up = omega arith; turn = t }
 
-  other-way : (a + b) % 4 ≡ r → (u v : ℕ) → Diagonal r a b u v → ((u ≡ a + 1) × (v ≡ b - 1)) ⊎ ((u ≡ a - 1) × (v ≡ b + 1))
-  other-way e u v d = choose (decLt v b) (λ l. omega arith) (λ l. omega arith)
+module _ (a b : ℕ) (oa : a % 2 ≡ 1) (ob : b % 2 ≡ 1) where
+  pub centre-ended : (u v : ℕ) → Ended a b u v ↔ Diagonal 0 a b u v
+  centre-ended u v = (λ r. omega (arith, r .alike oa ob), λ d. omega arith)
 
-  same-low : (a + b + 2) % 4 ≡ r → Diagonal r a b (a - 1) (b - 1)
-  same-low e = omega arith
+  pub centre-depended : (u v : ℕ) → Depended a b u v ↔ Diagonal 2 a b u v
+  centre-depended u v = (λ r. omega (arith, r .centre oa ob), λ d. omega arith)
 
-  same-high : (a + b + 2) % 4 ≡ r → Diagonal r a b (a + 1) (b + 1)
-  same-high e = omega arith
+  module _ (r : ℕ) where
+    same-way : (a + b + 2) % 4 ≡ r → (u v : ℕ) → Diagonal r a b u v → ((u ≡ a - 1) × (v ≡ b - 1)) ⊎ ((u ≡ a + 1) × (v ≡ b + 1))
+    same-way e u v d = choose (decLt u a) (λ l. omega arith) (λ l. omega arith)
 
-  other-low : (a + b) % 4 ≡ r → Diagonal r a b (a + 1) (b - 1)
-  other-low e = omega arith
+    other-way : (a + b) % 4 ≡ r → (u v : ℕ) → Diagonal r a b u v → ((u ≡ a + 1) × (v ≡ b - 1)) ⊎ ((u ≡ a - 1) × (v ≡ b + 1))
+    other-way e u v d = choose (decLt v b) (λ l. omega arith) (λ l. omega arith)
 
-  other-high : (a + b) % 4 ≡ r → Diagonal r a b (a - 1) (b + 1)
-  other-high e = omega arith
+    same-both : (a + b + 2) % 4 ≡ r → Diagonal r a b (a - 1) (b - 1) × Diagonal r a b (a + 1) (b + 1)
+    same-both e = omega arith
+
+    other-both : (a + b) % 4 ≡ r → Diagonal r a b (a + 1) (b - 1) × Diagonal r a b (a - 1) (b + 1)
+    other-both e = omega arith
 
 -- the two points of a pair
 abbrev pub twoOf : Pair → List Point
@@ -134,170 +134,155 @@ pub record Lattice (m s a b : ℕ) (p : Point) : Type 0 where
   pub times : Times s a b p
   pub inside : Inside m p
 
--- along an axis from a centre, or beside it
-four-ways : (a b u v : ℕ) → a % 2 ≡ 1 → b % 2 ≡ 1 → Beside a b u v →
-    ((u ≡ a) × (v ≡ b - 1)) ⊎ (((u ≡ a - 1) × (v ≡ b)) ⊎ (((u ≡ a + 1) × (v ≡ b)) ⊎ ((u ≡ a) × (v ≡ b + 1))))
+-- one unit from a centre, south, west, east or north
+abbrev FourWays : ℕ → ℕ → ℕ → ℕ → Type 0
+FourWays a b u v = ((u ≡ a) × (v ≡ b - 1)) ⊎ (((u ≡ a - 1) × (v ≡ b)) ⊎ (((u ≡ a + 1) × (v ≡ b)) ⊎ ((u ≡ a) × (v ≡ b + 1))))
+
+four-ways : (a b u v : ℕ) → a % 2 ≡ 1 → b % 2 ≡ 1 → Beside a b u v → FourWays a b u v
 four-ways a b u v oa ob r = by (decLt v b) (decLt u a) (decLt a u)
   where
-    by : Dec (v < b) → Dec (u < a) → Dec (a < u) →
-        ((u ≡ a) × (v ≡ b - 1)) ⊎ (((u ≡ a - 1) × (v ≡ b)) ⊎ (((u ≡ a + 1) × (v ≡ b)) ⊎ ((u ≡ a) × (v ≡ b + 1))))
+    by : Dec (v < b) → Dec (u < a) → Dec (a < u) → FourWays a b u v
     by (yes d) e f = inl (omega arith)
     by (no d) (yes e) f = inr (inl (omega arith))
     by (no d) (no e) (yes f) = inr (inr (inl (omega arith)))
     by (no d) (no e) (no f) = inr (inr (inr (omega arith)))
 
--- an edge point depends on what is one unit away on the axis of its even unit
-row-steps : (a b v : ℕ) → a % 2 ≡ 1 → b % 2 ≡ 0 → Close v b → (v + b) % 2 ≡ 1 → Depended a b a v
-row-steps a b v oa eb c o = omega arith
-
-row-stepped : (a b u v : ℕ) → a % 2 ≡ 1 → b % 2 ≡ 0 → Depended a b u v → (u ≡ a) × ((v + b) % 2 ≡ 1)
-row-stepped a b u v oa eb d = omega (arith, d .edge (omega arith))
-
-column-steps : (a b u : ℕ) → a % 2 ≡ 0 → b % 2 ≡ 1 → Close u a → (u + a) % 2 ≡ 1 → Depended a b u b
-column-steps a b u ea ob c o = omega arith
-
-column-stepped : (a b u v : ℕ) → a % 2 ≡ 0 → b % 2 ≡ 1 → Depended a b u v → (v ≡ b) × ((u + a) % 2 ≡ 1)
-column-stepped a b u v ea ob d = omega (arith, d .edge (omega arith))
-
 module _ {m s a b : ℕ} {p : Point} (g : Lattice m s a b p) where
-  next : (c d : ℕ) → c ≡ s * d → c ≤ side m → d % 2 ≡ 1 → Neighbours (side m) s d c
-  next c d e l o =
-      let f : s * d ≤ s * (2 * g .half) = omega (arith, g .wide) in
-      neighbours (side m) s d c e o (reach (side m) s (g .half) d c (g .wide) e (le-of-mul-le-mul-left f (g .positive)) o)
+  pub east-axis : Axis (side m) s a (p .x)
+  east-axis = record { positive = g .positive; times = g .times .east; most = g .inside .east }
 
-  east : a % 2 ≡ 1 → Neighbours (side m) s a (p .x)
-  east o = next (p .x) a (g .times .east) (g .inside .east) o
+  pub north-axis : Axis (side m) s b (p .y)
+  north-axis = record { positive = g .positive; times = g .times .north; most = g .inside .north }
 
-  north : b % 2 ≡ 1 → Neighbours (side m) s b (p .y)
-  north o = next (p .y) b (g .times .north) (g .inside .north) o
+  next : {c d : ℕ} → Axis (side m) s d c → d % 2 ≡ 1 → Neighbours (side m) s d c
+  next {c} {d} x o =
+      let f : s * d ≤ s * (2 * g .half) = omega (arith, g .wide, x .most, x .times) in
+      neighbours (side m) s d c (x .times) o
+      (reach (side m) s (g .half) d c (g .wide) (x .times) (le-of-mul-le-mul-left f (g .positive)) o)
+
+  -- one unit on from p: east-west, north-south
+  module _ (oa : a % 2 ≡ 1) where
+    west : Times s (a - 1) b (at (p .x - s) (p .y))
+    west = record { east = next east-axis oa .low; north = g .times .north }
+
+    east : Times s (a + 1) b (at (p .x + s) (p .y))
+    east = record { east = next east-axis oa .high; north = g .times .north }
+
+  module _ (ob : b % 2 ≡ 1) where
+    south : Times s a (b - 1) (at (p .x) (p .y - s))
+    south = record { east = g .times .east; north = next north-axis ob .low }
+
+    north : Times s a (b + 1) (at (p .x) (p .y + s))
+    north = record { east = g .times .east; north = next north-axis ob .high }
 
   module _ (oa : a % 2 ≡ 1) (ob : b % 2 ≡ 1) where
     module _ (R : ℕ → ℕ → Type 0) (r : ℕ) (is : (u v : ℕ) → R u v ↔ Diagonal r a b u v) {q : Point} where
       same-line : (a + b + 2) % 4 ≡ r → List·Memᴰ q (at (p .x - s) (p .y - s) ∷ at (p .x + s) (p .y + s) ∷ []) ↔ Stands R s q
       same-line t =
-          two R (record { east = east oa .low; north = north ob .low }) (record { east = east oa .high; north = north ob .high })
-          (is (a - 1) (b - 1) .1 (same-low a b r oa ob t)) (is (a + 1) (b + 1) .1 (same-high a b r oa ob t))
-          (λ u v k. same-way a b r oa ob t u v (is u v .0 k))
+          let d = same-both a b oa ob r t in
+          two R (record { east = west oa .east; north = south ob .north }) (record { east = east oa .east; north = north ob .north })
+          (is (a - 1) (b - 1) .1 (d .0)) (is (a + 1) (b + 1) .1 (d .1)) (λ u v k. same-way a b oa ob r t u v (is u v .0 k))
 
       other-line : (a + b) % 4 ≡ r → List·Memᴰ q (at (p .x + s) (p .y - s) ∷ at (p .x - s) (p .y + s) ∷ []) ↔ Stands R s q
       other-line t =
-          two R (record { east = east oa .high; north = north ob .low }) (record { east = east oa .low; north = north ob .high })
-          (is (a + 1) (b - 1) .1 (other-low a b r oa ob t)) (is (a - 1) (b + 1) .1 (other-high a b r oa ob t))
-          (λ u v k. other-way a b r oa ob t u v (is u v .0 k))
-
-    ended : (u v : ℕ) → Ended a b u v ↔ Diagonal 0 a b u v
-    ended u v = (λ r. omega (arith, r .alike oa ob), λ d. omega arith)
-
-    depended : (u v : ℕ) → Depended a b u v ↔ Diagonal 2 a b u v
-    depended u v = (λ r. omega (arith, r .centre oa ob), λ d. omega arith)
+          let d = other-both a b oa ob r t in
+          two R (record { east = east oa .east; north = south ob .north }) (record { east = west oa .east; north = north ob .north })
+          (is (a + 1) (b - 1) .1 (d .0)) (is (a - 1) (b + 1) .1 (d .1)) (λ u v k. other-way a b oa ob r t u v (is u v .0 k))
 
     pub beside-way : {q : Point} → List·Memᴰ q (beside s (p .x) (p .y)) ↔ Stands (Beside a b) s q
     beside-way = (
       all (Stands (Beside a b) s) (beside s (p .x) (p .y)) (
-        record { across = a; up = b - 1; times = south; holds = omega arith },
+        record { across = a; up = b - 1; times = south ob; holds = omega arith },
         (
-          record { across = a - 1; up = b; times = west; holds = omega arith },
+          record { across = a - 1; up = b; times = west oa; holds = omega arith },
           (
-            record { across = a + 1; up = b; times = eastward; holds = omega arith },
-            (record { across = a; up = b + 1; times = northward; holds = omega arith }, tt),
+            record { across = a + 1; up = b; times = east oa; holds = omega arith },
+            (record { across = a; up = b + 1; times = north ob; holds = omega arith }, tt),
           ),
         ),
       ),
-      λ k.
-          ⊎-elim (λ e. List·Memᴰ·head (same (k .times) south e))
-          (λ j.
-          List·Memᴰ·tail
-          (⊎-elim (λ e. List·Memᴰ·head (same (k .times) west e))
-          (λ i.
-          List·Memᴰ·tail
-          (⊎-elim (λ e. List·Memᴰ·head (same (k .times) eastward e)) (λ e. List·Memᴰ·tail (List·Memᴰ·head (same (k .times) northward e))) i))
-          j))
-          (four-ways a b (k .across) (k .up) oa ob (k .holds)),
+      λ k. by k (four-ways a b (k .across) (k .up) oa ob (k .holds)),
     )
       where
-        south : Times s a (b - 1) (at (p .x) (p .y - s))
-        south = record { east = g .times .east; north = north ob .low }
+        by : {q : Point} (k : Stands (Beside a b) s q) → FourWays a b (k .across) (k .up) → List·Memᴰ q (beside s (p .x) (p .y))
+        by k (inl e) = List·Memᴰ·head (same (k .times) (south ob) e)
+        by k (inr (inl e)) = List·Memᴰ·tail (List·Memᴰ·head (same (k .times) (west oa) e))
+        by k (inr (inr (inl e))) = List·Memᴰ·tail (List·Memᴰ·tail (List·Memᴰ·head (same (k .times) (east oa) e)))
+        by k (inr (inr (inr e))) = List·Memᴰ·tail (List·Memᴰ·tail (List·Memᴰ·tail (List·Memᴰ·head (same (k .times) (north ob) e))))
 
-        west : Times s (a - 1) b (at (p .x - s) (p .y))
-        west = record { east = east oa .low; north = g .times .north }
-
-        eastward : Times s (a + 1) b (at (p .x + s) (p .y))
-        eastward = record { east = east oa .high; north = g .times .north }
-
-        northward : Times s a (b + 1) (at (p .x) (p .y + s))
-        northward = record { east = g .times .east; north = north ob .high }
-
-    -- one unit from a centre is inside
-    pub around-inside : {u v : ℕ} {q : Point} → Times s u v q → Close u a → Close v b → Inside m q
+    -- a centre depends on points one unit away both ways, and those are inside
+    around-inside : {u v : ℕ} {q : Point} → Times s u v q → Close u a → Close v b → Inside m q
     around-inside t cu cv =
         let e : s * _ ≤ s * (a + 1) = mul-le-mul-left s (cu .most) in
         let f : s * _ ≤ s * (b + 1) = mul-le-mul-left s (cv .most) in
-        record {
-          east = omega (arith, t .east, east oa .high, east oa .high-inside);
-          north = omega (arith, t .north, north ob .high, north ob .high-inside);
-        }
+        let x = next east-axis oa in
+        let y = next north-axis ob in
+        record { east = omega (arith, t .east, x .high, x .high-inside); north = omega (arith, t .north, y .high, y .high-inside) }
+
+    centred : {q : Point} {l : List Point} → List·Memᴰ q l ↔ Stands (Depended a b) s q →
+        List·Memᴰ q l ↔ (Inside m q × Stands (Depended a b) s q)
+    centred e = (
+      λ i. let k = e .0 i in (around-inside (k .times) (k .holds .east) (k .holds .north), k),
+      λ k. e .1 (k .1),
+    )
 
   pub ends-way : {k : Kind} {q : Point} → Way a b k → List·Memᴰ q (twoOf (endsBy k s (p .x) (p .y))) ↔ Stands (Ended a b) s q
   ends-way (row oa eb) =
-      let e = east oa in
-      two (Ended a b) (record { east = e .low; north = g .times .north }) (record { east = e .high; north = g .times .north })
-      (omega arith) (omega arith)
+      two (Ended a b) (west oa) (east oa) (omega arith) (omega arith)
       (λ u v r. choose (decLt u a) (λ l. omega arith) (λ l. omega arith))
   ends-way (column ea ob) =
-      let e = north ob in
-      two (Ended a b) (record { east = g .times .east; north = e .low }) (record { east = g .times .east; north = e .high })
-      (omega arith) (omega arith)
+      two (Ended a b) (south ob) (north ob) (omega arith) (omega arith)
       (λ u v r. choose (decLt v b) (λ l. omega arith) (λ l. omega arith))
-  ends-way (rise oa ob t) = same-line oa ob (Ended a b) 0 (ended oa ob) (omega arith)
-  ends-way (fall oa ob t) = other-line oa ob (Ended a b) 0 (ended oa ob) t
-
-  -- a centre depends on points one unit away both ways, and those are inside
-  centred : {q : Point} {l : List Point} → a % 2 ≡ 1 → b % 2 ≡ 1 → List·Memᴰ q l ↔ Stands (Depended a b) s q →
-      List·Memᴰ q l ↔ (Inside m q × Stands (Depended a b) s q)
-  centred oa ob e = (
-    λ i. let k = e .0 i in (around-inside oa ob (k .times) (k .holds .east) (k .holds .north), k),
-    λ k. e .1 (k .1),
-  )
+  ends-way (rise oa ob t) = same-line oa ob (Ended a b) 0 (centre-ended a b oa ob) (omega arith)
+  ends-way (fall oa ob t) = other-line oa ob (Ended a b) 0 (centre-ended a b oa ob) t
 
   pub depends-way : {k : Kind} {q : Point} → Way a b k →
       List·Memᴰ q (dependsBy k (side m) s (p .x) (p .y)) ↔ (Inside m q × Stands (Depended a b) s q)
-  depends-way {q = q} (row oa eb) = (
-    λ i.
-        let r = line-in (side m) s b (p .y) (g .positive) (g .times .north) (g .inside .north) true (p .x) i in
-        let t = r .1 in
-        rw (r .2) (
-          record { east = g .inside .east; north = t .most },
-          record {
-            across = a;
-            up = t .unit;
-            times = record { east = g .times .east; north = t .times };
-            holds = row-steps a b (t .unit) oa eb (t .close) (t .other);
-          },
-        ),
-    λ k.
-        let o = row-stepped a b (k .1 .across) (k .1 .up) oa eb (k .1 .holds) in
-        line-of (side m) s b (p .y) (g .positive) (g .times .north) (g .inside .north) true (p .x)
-        (record { unit = k .1 .up; times = k .1 .times .north; close = k .1 .holds .north; other = o .1; most = k .0 .north })
-        (same-point (k .1 .times .east ∙ ap (λ (u : ℕ). s * u) (o .0) ∙ sym (g .times .east)) refl),
-  )
-  depends-way {q = q} (column ea ob) = (
-    λ i.
-        let r = line-in (side m) s a (p .x) (g .positive) (g .times .east) (g .inside .east) false (p .y) i in
-        let t = r .1 in
-        rw (r .2) (
-          record { east = t .most; north = g .inside .north },
-          record {
-            across = t .unit;
-            up = b;
-            times = record { east = t .times; north = g .times .north };
-            holds = column-steps a b (t .unit) ea ob (t .close) (t .other);
-          },
-        ),
-    λ k.
-        let o = column-stepped a b (k .1 .across) (k .1 .up) ea ob (k .1 .holds) in
-        line-of (side m) s a (p .x) (g .positive) (g .times .east) (g .inside .east) false (p .y)
-        (record { unit = k .1 .across; times = k .1 .times .east; close = k .1 .holds .east; other = o .1; most = k .0 .east })
-        (same-point refl (k .1 .times .north ∙ ap (λ (v : ℕ). s * v) (o .0) ∙ sym (g .times .north))),
-  )
-  depends-way (rise oa ob t) = centred oa ob (other-line oa ob (Depended a b) 2 (depended oa ob) t)
-  depends-way (fall oa ob t) = centred oa ob (same-line oa ob (Depended a b) 2 (depended oa ob) (omega arith))
+  depends-way {q = q} (row oa eb) =
+      let o : (a + b) % 2 ≡ 1 = omega arith in (
+        λ i.
+            let r = line-is north-axis true (p .x) .0 i in
+            let t = r .1 in
+            let d = edge-depended o (omega arith) (t .close) oa (odd-left b (t .unit) (t .other) eb) in
+            rw (r .2) (
+              record { east = g .inside .east; north = t .most },
+              record { across = a; up = t .unit; times = record { east = g .times .east; north = t .times }; holds = d },
+            ),
+        λ i.
+            let k = i .1 in
+            let z = k .holds .edge o in
+            let e = ap (λ (u : ℕ). s * u) (close-equal (k .holds .east) (z .0 ∙ sym oa)) in
+            let t : Stepped (side m) s b (q .y) = record {
+              unit = k .up;
+              times = k .times .north;
+              close = k .holds .north;
+              other = even-odd b (k .up) eb (z .1);
+              most = i .0 .north;
+            } in
+            line-is north-axis true (p .x) .1 (q .y, t, same-point (k .times .east ∙ e ∙ sym (g .times .east)) refl),
+      )
+  depends-way {q = q} (column ea ob) =
+      let o : (a + b) % 2 ≡ 1 = omega arith in (
+        λ i.
+            let r = line-is east-axis false (p .y) .0 i in
+            let t = r .1 in
+            let d = edge-depended o (t .close) (omega arith) (odd-left a (t .unit) (t .other) ea) ob in
+            rw (r .2) (
+              record { east = t .most; north = g .inside .north },
+              record { across = t .unit; up = b; times = record { east = t .times; north = g .times .north }; holds = d },
+            ),
+        λ i.
+            let k = i .1 in
+            let z = k .holds .edge o in
+            let e = ap (λ (v : ℕ). s * v) (close-equal (k .holds .north) (z .1 ∙ sym ob)) in
+            let t : Stepped (side m) s a (q .x) = record {
+              unit = k .across;
+              times = k .times .east;
+              close = k .holds .east;
+              other = even-odd a (k .across) ea (z .0);
+              most = i .0 .east;
+            } in
+            line-is east-axis false (p .y) .1 (q .x, t, same-point refl (k .times .north ∙ e ∙ sym (g .times .north))),
+      )
+  depends-way (rise oa ob t) = centred oa ob (other-line oa ob (Depended a b) 2 (centre-depended a b oa ob) t)
+  depends-way (fall oa ob t) = centred oa ob (same-line oa ob (Depended a b) 2 (centre-depended a b oa ob) (omega arith))

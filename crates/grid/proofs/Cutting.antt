@@ -1,23 +1,22 @@
 -- A triangle with cuts left is cut at a point of the rank that its cuts name, whose ends are the triangle's longest side
 -- and which depends on the apex. By induction: a half of a triangle lies around its own cut as its ends and apex should.
-use mathlib.Core.Path.{_≡_, refl, sym, ap, _∙_, subst}
-use mathlib.Core.Bool.{Bool, true, false}
-use mathlib.Core.List.{List, [], _∷_, List·Memᴰ, List·Memᴰ·head, List·Memᴰ·tail, List·Memᴰ·cases-cons, List·Memᴰ·eq-of-singleton}
+use mathlib.Core.Path.{_≡_, refl, sym, ap, _∙_}
+use mathlib.Core.Bool.{false}
+use mathlib.Core.List.{List·Memᴰ, List·Memᴰ·head, List·Memᴰ·tail, List·Memᴰ·cases-cons, List·Memᴰ·eq-of-singleton}
 use mathlib.Core.Logic.{_⊎_, inl, inr, ⊎-elim}
-use Prim.Native.Nat.{ℕ, zero, suc, _+_, _-_, _*_, _^_, _/_, _%_, _≤_, _<_}
+use Prim.Native.Nat.{ℕ, zero, suc, _+_, _*_, _^_, _/_, _%_, _<_}
 use native.Mathlib.Nat.{mul-add, mul-left-comm, mul-zero, pow-suc}
 use native.Mathlib.Omega.{arith}
 use Rattle.grid.specs.Grid.{side, at, Inside, middle}
 use Rattle.grid.specs.Points.{isCorner, kind, spacing, ends, endsBy, pair, dependsOn, rank, Back}
 use Rattle.grid.specs.Hierarchy.{Triangle, first, second, firstHalf, secondHalf}
 use Rattle.grid.specs.declared.points.Point.{Point}
-use Rattle.grid.specs.declared.points.Pair.{Pair}
 use Rattle.grid.specs.declared.points.Kind.{Kind}
 use Rattle.grid.specs.declared.points.Kind.the-variants.{Corner, EastWest, NorthSouth, Rising, Falling}
 use Rattle.grid.proofs.Room.{room, behind}
-use Rattle.grid.proofs.Units.{Times, Measured, Odd, odd-by, one-odd, double-sum, Form, edge, centre, form, edge-odd, rank-edge, rank-centre}
-use Rattle.grid.proofs.Members.{Close}
-use Rattle.grid.proofs.Around.{Ended, Depended, Stands, twoOf, same-point}
+use Rattle.grid.proofs.Sums.{odd-by, even-odd, double-sum, double-alike, close-same, close-half}
+use Rattle.grid.proofs.Units.{Times, Measured, Odd, Form, edge, centre, form, edge-odd, rank-edge, rank-centre}
+use Rattle.grid.proofs.Around.{Ended, Depended, twice-diagonal, Stands, edge-ended, edge-depended, centre-ended, centre-depended, twoOf, same-point}
 use Rattle.grid.proofs.Placed.{doubled, Placed, placed, measured, inner, ends-are, depends-are}
 
 -- c lies halfway between p and q
@@ -25,9 +24,15 @@ pub record Halfway (c p q : Point) : Type 0 where
   pub east : 2 * c .x ≡ p .x + q .x
   pub north : 2 * c .y ≡ p .y + q .y
 
+-- the corners of a triangle lie inside the square
+pub record Corners (m : ℕ) (l a r : Point) : Type 0 where
+  pub left : Inside m l
+  pub top : Inside m a
+  pub right : Inside m r
+
 -- a triangle (l, a, r) with k + 1 cuts left, and the middle of its longest side, where it is cut
 pub record Cut (m k : ℕ) (l a r : Point) : Type 0 where
-  pub insides : Inside m l × Inside m a × Inside m r
+  pub corners : Corners m l a r
   pub east : 2 * middle l r .x ≡ l .x + r .x
   pub north : 2 * middle l r .y ≡ l .y + r .y
   pub inside : Inside m (middle l r)
@@ -95,7 +100,7 @@ record Fit (m k : ℕ) (l a r : Point) : Type 0 where
   top : Stands (Depended c d) (2 ^ j) a
   east : 2 * c ≡ left .across + right .across
   north : 2 * d ≡ left .up + right .up
-  insides : Inside m l × Inside m a × Inside m r
+  corners : Corners m l a r
   ranked : {p : Point} → Measured m p j c d → rank m p ≡ k
 
 fit-swap : {m k : ℕ} {l a r : Point} → Fit m k l a r → Fit m k r a l
@@ -110,7 +115,7 @@ fit-swap f = record {
   top = f .top;
   east = omega (arith, f .east);
   north = omega (arith, f .north);
-  insides = (f .insides .2, f .insides .1, f .insides .0);
+  corners = record { left = f .corners .right; top = f .corners .top; right = f .corners .left };
   ranked = f .ranked;
 }
 
@@ -118,32 +123,18 @@ fit-cut : {m k : ℕ} {l a r : Point} → Fit m k l a r → Cut m k l a r
 fit-cut {m} {k} {l} {a} {r} f =
     let t = middle-times (f .left .times) (f .right .times) (f .east) (f .north) in
     let w = t .0 in
-    let h : Inside m (middle l r) = halfway-inside w (f .insides .0) (f .insides .2) in
+    let h : Inside m (middle l r) = halfway-inside w (f .corners .left) (f .corners .right) in
     let p : Placed m (f .j) (f .c) (f .d) (middle l r) = record { below = f .below; times = t .1; odd = f .odd; inside = h } in
     record {
-      insides = f .insides;
+      corners = f .corners;
       east = w .east;
       north = w .north;
       inside = h;
       inner = inner p;
       rank = f .ranked (measured p);
       ends = end-pair h w (ends-are p .1 (f .left));
-      apex = depends-are p .1 (f .insides .1, f .top);
+      apex = depends-are p .1 (f .corners .top, f .top);
     }
-
--- along one axis: u and w are close to a, and so is what lies halfway, in the same units or in half of them
-close-same : {a c u w : ℕ} → Close u a → Close w a → 2 * c ≡ u + w → Close u c × Close w c × Close a c
-close-same f g e = omega arith
-
-close-half : {a u w : ℕ} → Close u a → Close w a → u % 2 ≡ 0 → w % 2 ≡ 1 → Close (2 * u) (u + w) × Close (2 * w) (u + w) × Close (2 * a) (u + w)
-close-half f g e o = omega arith
-
--- parities
-even-odd : (u w : ℕ) → u % 2 ≡ 0 → w % 2 ≡ 1 → (u + w) % 2 ≡ 1
-even-odd u w e o = omega arith
-
-double-alike : (u v : ℕ) → u % 2 ≡ v % 2 → (2 * u + 2 * v) % 4 ≡ 0
-double-alike u v e = double-sum u v 0 (omega arith)
 
 -- between an end (u, v) of (a, b) and a point (u′, v′) that it depends on
 module _ {a b u v u′ v′ : ℕ} (e : Ended a b u v) (t : Depended a b u′ v′) where
@@ -154,29 +145,27 @@ module _ {a b u v u′ v′ : ℕ} (e : Ended a b u v) (t : Depended a b u′ v�
       let z = t .centre oa ob in
       let o = odd-by (c + d) ((u + v) / 4 + (u′ + v′) / 4) (omega (arith, e .alike oa ob)) in
       let x = close-same (e .east) (t .east) ec in
-      let y = close-same (e .north) (t .north) ed in
-      let never : c % 2 ≡ 1 → d % 2 ≡ 1 → ⊥ = λ oc od. one-odd c d o oc od in (
+      let y = close-same (e .north) (t .north) ed in (
         o,
-        record { east = x .0; north = y .0; across = e .across; up = e .up; alike = λ oc od. absurd (never oc od) },
-        record { east = x .1; north = y .1; across = z .0; up = z .1; alike = λ oc od. absurd (never oc od) },
-        record { east = x .2; north = y .2; edge = λ _. (oa, ob); centre = λ oc od. absurd (never oc od) },
+        edge-ended o (x .0) (y .0) (e .across) (e .up),
+        edge-ended o (x .1) (y .1) (z .0) (z .1),
+        edge-depended o (x .2) (y .2) oa ob,
       )
 
   -- of an edge point, there is a centre, counted in half the units
-  between-edge : (a + b) % 2 ≡ 1 →
-      Ended (u + u′) (v + v′) (2 * u) (2 * v) × Ended (u + u′) (v + v′) (2 * u′) (2 * v′) × Depended (u + u′) (v + v′) (2 * a) (2 * b)
+  between-edge : (a + b) % 2 ≡ 1 → ((u + u′) % 2 ≡ 1) × ((v + v′) % 2 ≡ 1) × Ended (u + u′) (v + v′) (2 * u) (2 * v)
+      × Ended (u + u′) (v + v′) (2 * u′) (2 * v′) × Depended (u + u′) (v + v′) (2 * a) (2 * b)
   between-edge o =
       let z = t .edge o in
+      let ou = even-odd u u′ (e .across) (z .0) in
+      let ov = even-odd v v′ (e .up) (z .1) in
       let x = close-half (e .east) (t .east) (e .across) (z .0) in
       let y = close-half (e .north) (t .north) (e .up) (z .1) in (
-        record { east = x .0; north = y .0; across = omega arith; up = omega arith; alike = λ _ _. double-alike u v (e .across ∙ sym (e .up)) },
-        record { east = x .1; north = y .1; across = omega arith; up = omega arith; alike = λ _ _. double-alike u′ v′ (z .0 ∙ sym (z .1)) },
-        record {
-          east = x .2;
-          north = y .2;
-          edge = λ i. absurd (one-odd (u + u′) (v + v′) i (even-odd u u′ (e .across) (z .0)) (even-odd v v′ (e .up) (z .1)));
-          centre = λ _ _. (omega arith, omega arith, double-sum a b 1 o);
-        },
+        ou,
+        ov,
+        centre-ended (u + u′) (v + v′) ou ov (2 * u) (2 * v) .1 (twice-diagonal u v (x .0) (y .0) (double-alike u v (e .across ∙ sym (e .up)))),
+        centre-ended (u + u′) (v + v′) ou ov (2 * u′) (2 * v′) .1 (twice-diagonal u′ v′ (x .1) (y .1) (double-alike u′ v′ (z .0 ∙ sym (z .1)))),
+        centre-depended (u + u′) (v + v′) ou ov (2 * a) (2 * b) .1 (twice-diagonal a b (x .2) (y .2) (double-sum a b 1 o)),
       )
 
 -- a point c, one of its ends l and a point a that it depends on: (l, c, a) is a triangle that is cut one rank lower
@@ -200,28 +189,25 @@ module _ {m k : ℕ} {l c a : Point} (h : Inside m l) (h′ : Inside m a) where
         top = record { across = x; up = y; times = p .times; holds = b .3 };
         east = ex;
         north = ey;
-        insides = (h, p .inside, h′);
+        corners = record { left = h; top = p .inside; right = h′ };
         ranked = λ f. omega (arith, rank-centre (measured p) ox oy, rank-edge f (b .0));
       }
   half zero {x} {y} p r e d (edge o) = absurd (omega (arith, rank-edge (measured p) o))
   half (suc j) {x} {y} p r e d (edge o) =
       let b = between-edge (e .holds) (d .holds) o in
-      let z = d .holds .edge o in
-      let ou = even-odd (e .across) (d .across) (e .holds .across) (z .0) in
-      let ov = even-odd (e .up) (d .up) (e .holds .up) (z .1) in
       record {
         j = j;
         c = e .across + d .across;
         d = e .up + d .up;
         below = omega (arith, p .below);
-        odd = inl ou;
-        left = record { across = 2 * e .across; up = 2 * e .up; times = doubled j (e .times); holds = b .0 };
-        right = record { across = 2 * d .across; up = 2 * d .up; times = doubled j (d .times); holds = b .1 };
-        top = record { across = 2 * x; up = 2 * y; times = doubled j (p .times); holds = b .2 };
+        odd = inl (b .0);
+        left = record { across = 2 * e .across; up = 2 * e .up; times = doubled j (e .times); holds = b .2 };
+        right = record { across = 2 * d .across; up = 2 * d .up; times = doubled j (d .times); holds = b .3 };
+        top = record { across = 2 * x; up = 2 * y; times = doubled j (p .times); holds = b .4 };
         east = omega arith;
         north = omega arith;
-        insides = (h, p .inside, h′);
-        ranked = λ f. omega (arith, rank-edge (measured p) o, rank-centre f ou ov);
+        corners = record { left = h; top = p .inside; right = h′ };
+        ranked = λ f. omega (arith, rank-edge (measured p) o, rank-centre f (b .0) (b .1));
       }
 
 -- half of a triangle: one of the two ends of its cut, the cut and its apex
@@ -229,19 +215,15 @@ half-cut : {m i k : ℕ} {l a r q : Point} → Cut m i l a r → i ≡ suc k →
     Fit m k q (middle l r) a
 half-cut {m} {l = l} {r = r} t e h is =
     let p = placed m (middle l r) (t .inside) (t .inner) in
-    half h (t .insides .1) _ p (t .rank ∙ e) (ends-are p .0 is) (depends-are p .0 (t .apex) .1) (form _ _ (p .odd))
+    half h (t .corners .top) _ p (t .rank ∙ e) (ends-are p .0 is) (depends-are p .0 (t .apex) .1) (form _ _ (p .odd))
 
 none : (j : ℕ) → 0 ≡ 2 ^ j * 0
 none j = sym (mul-zero (2 ^ j))
 
-all-of : {m j : ℕ} → m ≡ suc j → side m ≡ 2 ^ j * 2
-all-of {j = j} e = rw e (pow-suc 2 j)
-
--- the two that the square starts as: (0, 0) to (2, 2), in units of half its side
-whole : (m : ℕ) {k : ℕ} {a : Point} → 2 * m ≡ suc k → Inside m a → ((j : ℕ) → m ≡ suc j → Stands (Depended 1 1) (2 ^ j) a) →
-    Fit m k (at 0 0) a (at (side m) (side m))
-whole zero e h top = absurd (omega arith)
-whole (suc j) e h top = record {
+-- the two that the square starts as: from (0, 0) to (2, 2), in units of half its side
+whole : (j : ℕ) {k u v : ℕ} {a : Point} → 2 * suc j ≡ suc k → Inside (suc j) a → Times (2 ^ j) u v a → Depended 1 1 u v →
+    Fit (suc j) k (at 0 0) a (at (side (suc j)) (side (suc j)))
+whole j {u = u} {v = v} e h t d = record {
   j = j;
   c = 1;
   d = 1;
@@ -249,19 +231,20 @@ whole (suc j) e h top = record {
   odd = inl refl;
   left = record { across = 0; up = 0; times = record { east = none j; north = none j }; holds = omega arith };
   right = record { across = 2; up = 2; times = record { east = pow-suc 2 j; north = pow-suc 2 j }; holds = omega arith };
-  top = top j refl;
+  top = record { across = u; up = v; times = t; holds = d };
   east = refl;
   north = refl;
-  insides = (omega arith, h, omega arith);
+  corners = record { left = omega arith; top = h; right = omega arith };
   ranked = λ f. omega (arith, rank-centre f refl refl);
 }
 
--- the other two corners of the square, in those units
-south-east : (m j : ℕ) → m ≡ suc j → Stands (Depended 1 1) (2 ^ j) (at (side m) 0)
-south-east m j e = record { across = 2; up = 0; times = record { east = all-of e; north = none j }; holds = omega arith }
+south-east : (m : ℕ) {k : ℕ} → 2 * m ≡ suc k → Fit m k (at 0 0) (at (side m) 0) (at (side m) (side m))
+south-east zero e = absurd (omega arith)
+south-east (suc j) e = whole j {u = 2} {v = 0} e (omega arith) (record { east = pow-suc 2 j; north = none j }) (omega arith)
 
-north-west : (m j : ℕ) → m ≡ suc j → Stands (Depended 1 1) (2 ^ j) (at 0 (side m))
-north-west m j e = record { across = 0; up = 2; times = record { east = none j; north = all-of e }; holds = omega arith }
+north-west : (m : ℕ) {k : ℕ} → 2 * m ≡ suc k → Fit m k (at 0 0) (at 0 (side m)) (at (side m) (side m))
+north-west zero e = absurd (omega arith)
+north-west (suc j) e = whole j {u = 0} {v = 2} e (omega arith) (record { east = none j; north = pow-suc 2 j }) (omega arith)
 
 -- both ends of a cut are ends
 cut-ends : {m k : ℕ} {l a r : Point} → Cut m k l a r →
@@ -273,16 +256,16 @@ cut-ends t =
     (t .ends)
 
 cut-by : {m n : ℕ} {l a r : Point} → Triangle m n l a r → (k : ℕ) → n ≡ suc k → Cut m k l a r
-cut-by {m} first k e = fit-cut (whole m e (omega arith) (south-east m))
-cut-by {m} second k e = fit-cut (fit-swap (whole m e (omega arith) (north-west m)))
-cut-by (firstHalf {k = i} t) k e = let c = cut-by t i refl in fit-cut (half-cut c e (c .insides .0) (cut-ends c .0))
-cut-by (secondHalf {k = i} t) k e = let c = cut-by t i refl in fit-cut (fit-swap (half-cut c e (c .insides .2) (cut-ends c .1)))
+cut-by {m} first k e = fit-cut (south-east m e)
+cut-by {m} second k e = fit-cut (fit-swap (north-west m e))
+cut-by (firstHalf {k = i} t) k e = let c = cut-by t i refl in fit-cut (half-cut c e (c .corners .left) (cut-ends c .0))
+cut-by (secondHalf {k = i} t) k e = let c = cut-by t i refl in fit-cut (fit-swap (half-cut c e (c .corners .right) (cut-ends c .1)))
 
 pub cut : {m k : ℕ} {l a r : Point} → Triangle m (suc k) l a r → Cut m k l a r
 cut {k = k} t = cut-by t k refl
 
-pub corners-inside : {m k : ℕ} {l a r : Point} → Triangle m k l a r → Inside m l × Inside m a × Inside m r
-corners-inside first = (omega arith, omega arith, omega arith)
-corners-inside second = (omega arith, omega arith, omega arith)
-corners-inside (firstHalf t) = let c = cut t in (c .insides .0, c .inside, c .insides .1)
-corners-inside (secondHalf t) = let c = cut t in (c .insides .1, c .inside, c .insides .2)
+pub corners-inside : {m k : ℕ} {l a r : Point} → Triangle m k l a r → Corners m l a r
+corners-inside first = omega arith
+corners-inside second = omega arith
+corners-inside (firstHalf t) = let c = cut t in record { left = c .corners .left; top = c .inside; right = c .corners .top }
+corners-inside (secondHalf t) = let c = cut t in record { left = c .corners .top; top = c .inside; right = c .corners .right }

@@ -1,38 +1,30 @@
 -- What a point depends on has the next rank, and p depends on q just where p is one of q's dependents.
 -- Both from the units: an edge point depends on centres of its spacing, a centre on edge points of twice its spacing.
-use mathlib.Core.Path.{_≡_, refl, sym, ap, _∙_, subst}
-use mathlib.Core.Bool.{Bool, true, false, cond}
-use mathlib.Core.List.{List, [], _∷_, List·Memᴰ, List·Memᴰ·not-nil}
-use mathlib.Core.Logic.{_⊎_, inl, inr, _↔_}
+use mathlib.Core.Path.{_≡_, refl}
+use mathlib.Core.Bool.{false}
+use mathlib.Core.List.{List·Memᴰ, List·Memᴰ·not-nil}
+use mathlib.Core.Logic.{inl, _↔_}
 use Prim.Native.Nat.{ℕ, zero, suc, _+_, _*_, _^_, _/_, _%_, _≤_, _<_}
 use native.Mathlib.Nat.{pow-suc}
 use native.Mathlib.Omega.{arith}
-use lib.Dec.{eqb}
 use lib.Pow.{pow-pos}
 use borrow.Author.Tests.{ne-eqb}
 use Rattle.grid.specs.Grid.{side, Inside}
-use Rattle.grid.specs.Points.{isCorner, kind, dependsOn, dependents, dependentsBy, beside, crossing, crossed, rank}
+use Rattle.grid.specs.Points.{isCorner, dependsOn, dependents, dependentsBy, beside, crossing, crossed, rank}
 use Rattle.grid.specs.declared.points.Point.{Point}
 use Rattle.grid.specs.declared.points.Kind.{Kind}
 use Rattle.grid.proofs.Spaced.{level-below}
 use Rattle.grid.proofs.Parity.{kind-corner}
-use Rattle.grid.proofs.Units.{Times, Measured, odd-by, one-odd, double-sum, at-units, Form, edge, centre, form, edge-odd, rank-edge, rank-centre}
-use Rattle.grid.proofs.Members.{Close, Stepped, crossing-in, crossing-of}
-use Rattle.grid.proofs.Around.{Depended, Beside, Stands, Way, row, column, rise, fall, Lattice, beside-way}
+use Rattle.grid.proofs.Sums.{false-by, odd-left, double-sum, half-sum, Close, close-sym}
+use Rattle.grid.proofs.Units.{Times, at-units, Form, edge, centre, form, edge-odd, rank-edge, rank-centre}
+use Rattle.grid.proofs.Members.{Stepped, crossing-is}
+use Rattle.grid.proofs.Around.{Depended, Beside, twice-diagonal, Stands, edge-depended, centre-depended, Way, row, column, rise, fall, beside-way}
 use Rattle.grid.proofs.Placed.{doubled, halved, Placed, placed, measured, inner, lattice, kind-way, depends-are}
 
 -- a point that depends on another is no grid corner
 pub depends-inner : (m : ℕ) (p : Point) {q : Point} → List·Memᴰ q (dependsOn m p) → isCorner m p ≡ false
 unfolding dependsOn
-depends-inner m p {q} i = by (isCorner m p) refl
-  where
-    by : (t : Bool) → isCorner m p ≡ t → isCorner m p ≡ false
-    by true e = absurd (List·Memᴰ·not-nil (rw (kind-corner m p e) at i))
-    by false e = e
-
--- the sum of two halves
-half-sum : (u v : ℕ) → u % 2 ≡ 0 → v % 2 ≡ 0 → (u + v) % 4 ≡ 2 → (u / 2 + v / 2) % 2 ≡ 1
-half-sum u v eu ev t = odd-by (u / 2 + v / 2) ((u + v) / 4) (omega arith)
+depends-inner m p i = false-by (isCorner m p) (λ e. List·Memᴰ·not-nil (rw (kind-corner m p e) at i))
 
 module _ {m j a b : ℕ} {p q : Point} (f : Placed m j a b p) (k : Stands (Depended a b) (2 ^ j) q) where
   next-rank : Form a b → rank m q ≡ suc (rank m p)
@@ -86,38 +78,13 @@ module _ {m j a b : ℕ} {q : Point} (f : Placed m j a b q) where
 -- so of an edge point of spacing 2^(j+1): those one unit of 2^j away both ways
 dependents-cross : {m j a b : ℕ} {p q : Point} → Placed m (suc j) a b q → (a + b) % 2 ≡ 1 →
     List·Memᴰ p (dependents m q) ↔ (Stepped (side m) (2 ^ j) (2 * a) (p .x) × Stepped (side m) (2 ^ j) (2 * b) (p .y))
-dependents-cross {m} {j} {a} {b} {p} {q} f o =
+dependents-cross {m} {j} {q = q} f o =
     let t = doubled j (f .times) in
-    rw (dependents-edge f o, crossed-half (side m) j (q .x) (q .y)) (
-      λ i. crossing-in (side m) (2 ^ j) (2 * a) (2 * b) (q .x) (q .y) (pow-pos j) (t .east) (t .north) (f .inside .east) (f .inside .north) i,
-      λ s.
-          crossing-of (side m) (2 ^ j) (2 * a) (2 * b) (q .x) (q .y) (pow-pos j) (t .east) (t .north) (f .inside .east) (f .inside .north)
-          (s .0) (s .1),
-    )
+    rw (dependents-edge f o, crossed-half (side m) j (q .x) (q .y))
+    (crossing-is (record { positive = pow-pos j; times = t .east; most = f .inside .east })
+    (record { positive = pow-pos j; times = t .north; most = f .inside .north }))
 
--- in units: who depends on whom
-module _ {a b u v : ℕ} where
-  edge-beside : Depended a b u v → (a + b) % 2 ≡ 1 → Beside u v a b
-  edge-beside d o = record { east = omega arith; north = omega arith; other = o }
-
-  beside-edge : Beside u v a b → u % 2 ≡ 1 → v % 2 ≡ 1 → Depended a b u v
-  beside-edge k ou ov = record {
-    east = omega arith;
-    north = omega arith;
-    edge = λ _. (ou, ov);
-    centre = λ oa ob. absurd (one-odd a b (k .other) oa ob);
-  }
-
-cross-centre : {a b : ℕ} (u v : ℕ) → Close a (2 * u) → Close b (2 * v) → (a + 2 * u) % 2 ≡ 1 → (b + 2 * v) % 2 ≡ 1 → (u + v) % 2 ≡ 1 →
-    Depended a b (2 * u) (2 * v)
-cross-centre {a} {b} u v k l oa ob o = record {
-  east = omega arith;
-  north = omega arith;
-  edge = λ e. absurd (one-odd a b e (omega arith) (omega arith));
-  centre = λ _ _. (omega arith, omega arith, double-sum u v 1 o);
-}
-
--- a number close to u, an even one, is close to twice its half
+-- a number close to u, an even one, is one from twice the half of u
 stepped : {n s a u c : ℕ} → c ≡ s * a → c ≤ n → Close u a → u % 2 ≡ 0 → a % 2 ≡ 1 → Stepped n s (2 * (u / 2)) c
 stepped {a = a} e l k eu oa = record { unit = a; times = e; close = omega arith; other = omega arith; most = l }
 
@@ -126,7 +93,9 @@ depends-to : {m j a b : ℕ} {p q : Point} → Placed m j a b p → Inside m q �
 depends-to {m} {j} {a} {b} {p} {q} f h inner k (edge o) =
     let z = k .holds .edge o in
     let g : Placed m j (k .across) (k .up) q = record { below = f .below; times = k .times; odd = inl (z .0); inside = h } in
-    dependents-centre g (z .0) (z .1) .1 (record { across = a; up = b; times = f .times; holds = edge-beside (k .holds) o })
+    let r : Beside (k .across) (k .up) a b =
+    record { east = close-sym (k .holds .east); north = close-sym (k .holds .north); other = o } in
+    dependents-centre g (z .0) (z .1) .1 (record { across = a; up = b; times = f .times; holds = r })
 depends-to {m} {j} {a} {b} {p} {q} f h inner k (centre oa ob) =
     let z = k .holds .centre oa ob in
     let s = half-sum (k .across) (k .up) (z .0) (z .1) (z .2) in
@@ -145,22 +114,18 @@ depends-from {m} j {a} {b} {p} {q} f h i (centre oa ob) =
     let k = dependents-centre f oa ob .0 i in
     let o = k .holds .other in
     let g : Placed m j (k .across) (k .up) p = record { below = f .below; times = k .times; odd = edge-odd _ _ o; inside = h } in
-    depends-are g .1 (f .inside, record { across = a; up = b; times = f .times; holds = beside-edge (k .holds) oa ob })
+    let d = edge-depended o (close-sym (k .holds .east)) (close-sym (k .holds .north)) oa ob in
+    depends-are g .1 (f .inside, record { across = a; up = b; times = f .times; holds = d })
 depends-from {m} zero {a} {b} {p} {q} f h i (edge o) = absurd (List·Memᴰ·not-nil (rw (dependents-edge f o) at i))
 depends-from {m} (suc j) {a} {b} {p} {q} f h i (edge o) =
     let k = dependents-cross f o .0 i in
-    let ou : k .0 .unit % 2 ≡ 1 = omega (arith, k .0 .other) in
+    let ou = odd-left (2 * a) (k .0 .unit) (k .0 .other) (omega arith) in
+    let ov = odd-left (2 * b) (k .1 .unit) (k .1 .other) (omega arith) in
     let t : Times (2 ^ j) (k .0 .unit) (k .1 .unit) p = record { east = k .0 .times; north = k .1 .times } in
     let g : Placed m j (k .0 .unit) (k .1 .unit) p = record { below = omega (arith, f .below); times = t; odd = inl ou; inside = h } in
-    depends-are g .1 (
-      f .inside,
-      record {
-        across = 2 * a;
-        up = 2 * b;
-        times = doubled j (f .times);
-        holds = cross-centre a b (k .0 .close) (k .1 .close) (k .0 .other) (k .1 .other) o;
-      },
-    )
+    let d = centre-depended _ _ ou ov (2 * a) (2 * b) .1
+    (twice-diagonal a b (close-sym (k .0 .close)) (close-sym (k .1 .close)) (double-sum a b 1 o)) in
+    depends-are g .1 (f .inside, record { across = 2 * a; up = 2 * b; times = doubled j (f .times); holds = d })
 
 -- p depends on q just where p is one of the dependents of q
 pub depends-dependents : (m : ℕ) (p q : Point) → Inside m p → Inside m q → isCorner m q ≡ false →

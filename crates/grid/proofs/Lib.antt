@@ -8,6 +8,7 @@ pub mod Near
 pub mod Room
 pub mod Sited
 pub mod Coarser
+pub mod Sums
 pub mod Units
 pub mod Members
 pub mod Around

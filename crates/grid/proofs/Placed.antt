@@ -1,14 +1,14 @@
 -- A point that is no grid corner is placed by its level and units, and they name its ends and what it depends on: the
 -- claims of Around, carried from kind and spacing to the point.
-use mathlib.Core.Path.{_≡_, refl, sym, ap, _∙_, subst}
-use mathlib.Core.Bool.{Bool, true, false}
-use mathlib.Core.List.{List, [], _∷_, List·Memᴰ}
-use mathlib.Core.Logic.{_⊎_, inl, inr, _↔_}
-use Prim.Native.Nat.{ℕ, suc, _+_, _*_, _^_, _/_, _%_, _≤_, _<_}
+use mathlib.Core.Path.{_≡_, sym, ap, _∙_}
+use mathlib.Core.Bool.{false}
+use mathlib.Core.List.{List·Memᴰ}
+use mathlib.Core.Logic.{_↔_}
+use Prim.Native.Nat.{ℕ, suc, _*_, _^_, _/_, _%_, _<_}
 use native.Mathlib.Nat.{mul-left-comm}
 use native.Mathlib.Omega.{arith}
 use lib.Pow.{pow-pos}
-use Rattle.grid.specs.Grid.{side, Inside}
+use Rattle.grid.specs.Grid.{Inside}
 use Rattle.grid.specs.Points.{level, spacing, units, isCorner, kind, ends, dependsOn}
 use Rattle.grid.specs.declared.points.Point.{Point}
 use Rattle.grid.proofs.Level.{twice}

@@ -1,9 +1,9 @@
 -- A point 2^j·(a, b) with a or b odd has level j, spacing 2^j, and units a and b; with j below m it is no grid corner,
 -- for a grid corner has level m. So the ranks from 2m on are those of the grid corners.
-use mathlib.Core.Path.{_≡_, refl, sym, ap, _∙_, subst}
-use mathlib.Core.Bool.{Bool, true, false, _&&_, _||_}
-use mathlib.Core.Logic.{_⊎_, inl, inr, ⊎-elim}
-use Prim.Native.Nat.{ℕ, suc, _+_, _-_, _*_, _^_, _/_, _%_, _≤_, _<_}
+use mathlib.Core.Path.{_≡_, refl, ap}
+use mathlib.Core.Bool.{Bool, true, false, _||_}
+use mathlib.Core.Logic.{_⊎_, inl, inr}
+use Prim.Native.Nat.{ℕ, _+_, _-_, _*_, _^_, _%_, _≤_, _<_}
 use native.Mathlib.Nat.{mul-div-cancel-left, zero-mod, mod-self, le-refl}
 use native.Mathlib.Decide.{ℕ-discrete}
 use native.Mathlib.Omega.{arith}
@@ -13,14 +13,10 @@ use Rattle.grid.specs.Grid.{side, Inside}
 use Rattle.grid.specs.Points.{level, spacing, units, isCorner, isEnd, rank, odd, centreBit}
 use Rattle.grid.specs.declared.points.Point.{Point}
 use Rattle.grid.proofs.Table.{both}
+use Rattle.grid.proofs.Sums.{choose, false-by}
 use Rattle.grid.proofs.Level.{level-units, level-most, level-largest}
 use Rattle.grid.proofs.Spaced.{level-below}
 use Rattle.grid.proofs.Parity.{even-false, odd-true}
-
--- one of two, as a test decides
-pub choose : {A B D : Type 0} → Dec D → (D → A) → ((D → ⊥) → B) → A ⊎ B
-choose (yes d) f g = inl (f d)
-choose (no d) f g = inr (g d)
 
 end-divided : (m c : ℕ) → T (isEnd m c) → c % side m ≡ 0
 end-divided m c t = ends (eqb c 0) refl t
@@ -38,11 +34,7 @@ corner-level m p e =
     omega (arith, level-most m (p .x) (p .y))
 
 pub below-inner : (m : ℕ) (p : Point) → level m (p .x) (p .y) < m → isCorner m p ≡ false
-below-inner m p l = by (isCorner m p) refl
-  where
-    by : (t : Bool) → isCorner m p ≡ t → isCorner m p ≡ false
-    by true e = let z : level m (p .x) (p .y) ≡ m = corner-level m p e in absurd (omega arith)
-    by false e = e
+below-inner m p l = false-by (isCorner m p) (λ e. let z : level m (p .x) (p .y) ≡ m = corner-level m p e in omega arith)
 
 -- p is s times (a, b)
 pub record Times (s a b : ℕ) (p : Point) : Type 0 where
@@ -60,18 +52,6 @@ pub record Measured (m : ℕ) (p : Point) (j a b : ℕ) : Type 0 where
 -- one of two numbers is odd
 abbrev pub Odd : ℕ → ℕ → Type 0
 Odd a b = (a % 2 ≡ 1) ⊎ (b % 2 ≡ 1)
-
-pub odd-by : (n k : ℕ) → n ≡ 2 * k + 1 → n % 2 ≡ 1
-odd-by n k e = omega arith
-
-pub one-odd : (c d : ℕ) → (c + d) % 2 ≡ 1 → c % 2 ≡ 1 → d % 2 ≡ 1 → ⊥
-one-odd c d o oc od = omega arith
-
-pub double-sum : (u v r : ℕ) → (u + v) % 2 ≡ r → (2 * u + 2 * v) % 4 ≡ 2 * r
-double-sum u v r e = by (2 * u + 2 * v) ((u + v) / 2) (2 * r) (omega arith) (omega arith)
-  where
-    by : (n k i : ℕ) → n ≡ 4 * k + i → i < 4 → n % 4 ≡ i
-    by n k i f l = omega arith
 
 pub at-units : (m j a b : ℕ) {p : Point} → j ≤ m → Times (2 ^ j) a b p → Odd a b → Measured m p j a b
 unfolding spacing units
