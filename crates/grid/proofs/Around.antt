@@ -148,10 +148,10 @@ four-ways a b u v oa ob r = by (decLt v b) (decLt u a) (decLt a u)
     by (no d) (no e) (no f) = inr (inr (inr (omega arith)))
 
 module _ {m s a b : ℕ} {p : Point} (g : Lattice m s a b p) where
-  pub east-axis : Axis (side m) s a (p .x)
+  east-axis : Axis (side m) s a (p .x)
   east-axis = record { positive = g .positive; times = g .times .east; most = g .inside .east }
 
-  pub north-axis : Axis (side m) s b (p .y)
+  north-axis : Axis (side m) s b (p .y)
   north-axis = record { positive = g .positive; times = g .times .north; most = g .inside .north }
 
   next : {c d : ℕ} → Axis (side m) s d c → d % 2 ≡ 1 → Neighbours (side m) s d c
