@@ -9,3 +9,10 @@ pub mod Near
 pub mod Room
 pub mod Sited
 pub mod Coarser
+pub mod Sums
+pub mod Units
+pub mod Members
+pub mod Around
+pub mod Placed
+pub mod Dependence
+pub mod Cutting

@@ -14,10 +14,10 @@ use Rattle.grid.specs.declared.points.Point.{Point}
 use Rattle.grid.specs.declared.points.Kind.the-variants.{Corner, EastWest, NorthSouth, Rising, Falling}
 use Rattle.grid.proofs.Spaced.{View, view, east-units, north-units, spacing-positive, before}
 
-even-false : (n : ℕ) → n % 2 ≡ 0 → odd n ≡ false
+pub even-false : (n : ℕ) → n % 2 ≡ 0 → odd n ≡ false
 even-false n e = ne-eqb (n % 2) 1 (λ o. omega arith)
 
-odd-true : (n : ℕ) → n % 2 ≡ 1 → odd n ≡ true
+pub odd-true : (n : ℕ) → n % 2 ≡ 1 → odd n ≡ true
 odd-true n o = eq-eqb (n % 2) 1 o
 
 module _ (m : ℕ) (p : Point) where

@@ -22,7 +22,7 @@ spacing-side m p = pow-mono (level-most m (p .x) (p .y))
 abbrev pub Reach : ℕ → ℕ → ℕ → Type 0
 Reach n s c = (s ≤ c) × (c + s ≤ n)
 
-reach : (n s h a c : ℕ) → n ≡ s * (2 * h) → c ≡ s * a → a ≤ 2 * h → a % 2 ≡ 1 → Reach n s c
+pub reach : (n s h a c : ℕ) → n ≡ s * (2 * h) → c ≡ s * a → a ≤ 2 * h → a % 2 ≡ 1 → Reach n s c
 reach n s h a c w e l o =
     let one : s * 1 ≤ s * a = mul-le-mul-left s (omega arith) in
     let on : s * suc a ≤ s * (2 * h) = mul-le-mul-left s (omega arith) in
