@@ -9,9 +9,8 @@ use native.Mathlib.Nat.{le-of-mul-le-mul-left, mul-le-mul-left}
 use native.Mathlib.Decide.{decLt}
 use native.Mathlib.Omega.{arith}
 use Rattle.grid.specs.Grid.{side, at, Inside}
-use Rattle.grid.specs.Points.{units, kind, endsBy, dependsBy, beside}
+use Rattle.grid.specs.Points.{units, kind, both, endsBy, dependsBy, beside}
 use Rattle.grid.specs.declared.points.Point.{Point}
-use Rattle.grid.specs.declared.points.Pair.{Pair}
 use Rattle.grid.specs.declared.points.Kind.{Kind}
 use Rattle.grid.specs.declared.points.Kind.the-variants.{EastWest, NorthSouth, Rising, Falling}
 use Rattle.grid.proofs.Parity.{Sort, eastWest, northSouth, rising, falling}
@@ -122,10 +121,6 @@ module _ (a b : ℕ) (oa : a % 2 ≡ 1) (ob : b % 2 ≡ 1) where
     other-both : (a + b) % 4 ≡ r → Diagonal r a b (a + 1) (b - 1) × Diagonal r a b (a - 1) (b + 1)
     other-both e = omega arith
 
--- the two points of a pair
-abbrev pub twoOf : Pair → List Point
-twoOf e = e .first ∷ e .second ∷ []
-
 -- p is s times (a, b), in a square 2·half times s wide
 pub record Lattice (m s a b : ℕ) (p : Point) : Type 0 where
   pub half : ℕ
@@ -226,7 +221,7 @@ module _ {m s a b : ℕ} {p : Point} (g : Lattice m s a b p) where
       λ k. e .1 (k .1),
     )
 
-  pub ends-way : {k : Kind} {q : Point} → Way a b k → List·Memᴰ q (twoOf (endsBy k s (p .x) (p .y))) ↔ Stands (Ended a b) s q
+  pub ends-way : {k : Kind} {q : Point} → Way a b k → List·Memᴰ q (both (endsBy k s (p .x) (p .y))) ↔ Stands (Ended a b) s q
   ends-way (row oa eb) =
       two (Ended a b) (west oa) (east oa) (omega arith) (omega arith)
       (λ u v r. choose (decLt u a) (λ l. omega arith) (λ l. omega arith))

@@ -8,7 +8,7 @@ use Prim.Native.Nat.{ℕ, zero, suc, _+_, _*_, _^_, _/_, _%_, _<_}
 use native.Mathlib.Nat.{mul-add, mul-left-comm, mul-zero, pow-suc}
 use native.Mathlib.Omega.{arith}
 use Rattle.grid.specs.Grid.{side, at, Inside, middle}
-use Rattle.grid.specs.Points.{isCorner, kind, spacing, ends, endsBy, pair, dependsOn, rank, Back}
+use Rattle.grid.specs.Points.{isCorner, kind, spacing, both, ends, endsBy, pair, dependsOn, rank, Back}
 use Rattle.grid.specs.Hierarchy.{Triangle, first, second, firstHalf, secondHalf}
 use Rattle.grid.specs.declared.points.Point.{Point}
 use Rattle.grid.specs.declared.points.Kind.{Kind}
@@ -16,7 +16,7 @@ use Rattle.grid.specs.declared.points.Kind.the-variants.{Corner, EastWes
 use Rattle.grid.proofs.Room.{room, behind}
 use Rattle.grid.proofs.Sums.{odd-by, even-odd, double-sum, double-alike, close-same, close-half}
 use Rattle.grid.proofs.Units.{Times, Measured, Odd, Form, edge, centre, form, edge-odd, rank-edge, rank-centre}
-use Rattle.grid.proofs.Around.{Ended, Depended, twice-diagonal, Stands, edge-ended, edge-depended, centre-ended, centre-depended, twoOf, same-point}
+use Rattle.grid.proofs.Around.{Ended, Depended, twice-diagonal, Stands, edge-ended, edge-depended, centre-ended, centre-depended, same-point}
 use Rattle.grid.proofs.Placed.{doubled, Placed, placed, measured, inner, ends-are, depends-are}
 
 -- c lies halfway between p and q
@@ -61,7 +61,7 @@ opposite-end w v s =
     same-point (omega arith) (omega arith)
 
 -- so, of two points that it lies halfway between, both are its ends where one is
-end-pair : {m : ℕ} {p q r : Point} → Inside m p → Halfway p q r → List·Memᴰ q (twoOf (ends m p)) →
+end-pair : {m : ℕ} {p q r : Point} → Inside m p → Halfway p q r → List·Memᴰ q (both (ends m p)) →
     (ends m p ≡ pair q r) ⊎ (ends m p ≡ pair r q)
 end-pair {m} {p} {q} {r} h w i =
     let v = ends-halfway m p h in
@@ -211,7 +211,7 @@ module _ {m k : ℕ} {l c a : Point} (h : Inside m l) (h′ : Inside m a) where
       }
 
 -- half of a triangle: one of the two ends of its cut, the cut and its apex
-half-cut : {m i k : ℕ} {l a r q : Point} → Cut m i l a r → i ≡ suc k → Inside m q → List·Memᴰ q (twoOf (ends m (middle l r))) →
+half-cut : {m i k : ℕ} {l a r q : Point} → Cut m i l a r → i ≡ suc k → Inside m q → List·Memᴰ q (both (ends m (middle l r))) →
     Fit m k q (middle l r) a
 half-cut {m} {l = l} {r = r} t e h is =
     let p = placed m (middle l r) (t .inside) (t .inner) in
@@ -248,7 +248,7 @@ north-west (suc j) e = whole j {u = 0} {v = 2} e (omega arith) (record { east = 
 
 -- both ends of a cut are ends
 cut-ends : {m k : ℕ} {l a r : Point} → Cut m k l a r →
-    List·Memᴰ l (twoOf (ends m (middle l r))) × List·Memᴰ r (twoOf (ends m (middle l r)))
+    List·Memᴰ l (both (ends m (middle l r))) × List·Memᴰ r (both (ends m (middle l r)))
 cut-ends t =
     ⊎-elim
     (λ e. rw e (List·Memᴰ·head refl, List·Memᴰ·tail (List·Memᴰ·head refl)))

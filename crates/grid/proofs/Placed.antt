@@ -9,13 +9,13 @@ use native.Mathlib.Nat.{mul-left-comm}
 use native.Mathlib.Omega.{arith}
 use lib.Pow.{pow-pos}
 use Rattle.grid.specs.Grid.{Inside}
-use Rattle.grid.specs.Points.{level, spacing, units, isCorner, kind, ends, dependsOn}
+use Rattle.grid.specs.Points.{level, spacing, units, isCorner, kind, both, ends, dependsOn}
 use Rattle.grid.specs.declared.points.Point.{Point}
 use Rattle.grid.proofs.Level.{twice}
 use Rattle.grid.proofs.Spaced.{view, east-units, north-units, level-below}
 use Rattle.grid.proofs.Parity.{sort}
 use Rattle.grid.proofs.Units.{Times, Measured, Odd, at-units}
-use Rattle.grid.proofs.Around.{Ended, Depended, Stands, Way, way, twoOf, Lattice, ends-way, depends-way}
+use Rattle.grid.proofs.Around.{Ended, Depended, Stands, Way, way, Lattice, ends-way, depends-way}
 
 -- a point in units of 2^(j+1), counted in units of 2^j
 pub doubled : (j : ℕ) {a b : ℕ} {p : Point} → Times (2 ^ suc j) a b p → Times (2 ^ j) (2 * a) (2 * b) p
@@ -64,7 +64,7 @@ module _ {m j a b : ℕ} {p : Point} (f : Placed m j a b p) where
   pub kind-way : Way a b (kind m p)
   kind-way = rw (measured .across, measured .up) at (way (sort m p (f .inside) inner))
 
-  pub ends-are : {q : Point} → List·Memᴰ q (twoOf (ends m p)) ↔ Stands (Ended a b) (2 ^ j) q
+  pub ends-are : {q : Point} → List·Memᴰ q (both (ends m p)) ↔ Stands (Ended a b) (2 ^ j) q
   unfolding ends
   ends-are = rw (measured .spaced) (ends-way lattice kind-way)
 

@@ -1,37 +1,20 @@
 -- A point 2^j·(a, b) with a or b odd has level j, spacing 2^j, and units a and b; with j below m it is no grid corner,
 -- for a grid corner has level m. So the ranks from 2m on are those of the grid corners.
 use mathlib.Core.Path.{_≡_, refl, ap}
-use mathlib.Core.Bool.{Bool, true, false, _||_}
+use mathlib.Core.Bool.{Bool, true, false}
 use mathlib.Core.Logic.{_⊎_, inl, inr}
 use Prim.Native.Nat.{ℕ, _+_, _-_, _*_, _^_, _%_, _≤_, _<_}
-use native.Mathlib.Nat.{mul-div-cancel-left, zero-mod, mod-self, le-refl}
+use native.Mathlib.Nat.{mul-div-cancel-left}
 use native.Mathlib.Decide.{ℕ-discrete}
 use native.Mathlib.Omega.{arith}
-use lib.Dec.{T, eqb, eqb→eq}
 use lib.Pow.{pow-pos}
-use Rattle.grid.specs.Grid.{side, Inside}
-use Rattle.grid.specs.Points.{level, spacing, units, isCorner, isEnd, rank, odd, centreBit}
+use Rattle.grid.specs.Grid.{Inside}
+use Rattle.grid.specs.Points.{level, spacing, units, isCorner, rank, odd, centreBit}
 use Rattle.grid.specs.declared.points.Point.{Point}
-use Rattle.grid.proofs.Table.{both}
 use Rattle.grid.proofs.Sums.{choose, false-by}
-use Rattle.grid.proofs.Level.{level-units, level-most, level-largest}
-use Rattle.grid.proofs.Spaced.{level-below}
+use Rattle.grid.proofs.Level.{level-units}
+use Rattle.grid.proofs.Spaced.{level-below, corner-level}
 use Rattle.grid.proofs.Parity.{even-false, odd-true}
-
-end-divided : (m c : ℕ) → T (isEnd m c) → c % side m ≡ 0
-end-divided m c t = ends (eqb c 0) refl t
-  where
-    ends : (b : Bool) → eqb c 0 ≡ b → T (b || eqb c (side m)) → c % side m ≡ 0
-    ends true e u = rw (eqb→eq c 0 (rw e tt)) (zero-mod (side m))
-    ends false e u = rw (eqb→eq c (side m) u) (mod-self (side m))
-
-pub corner-level : (m : ℕ) (p : Point) → isCorner m p ≡ true → level m (p .x) (p .y) ≡ m
-unfolding isCorner
-corner-level m p e =
-    let t = both (isEnd m (p .x)) (isEnd m (p .y)) (rw e tt) in
-    let l : m ≤ level m (p .x) (p .y) =
-    level-largest m m (p .x) (p .y) (le-refl m) (record { east = end-divided m (p .x) (t .0); north = end-divided m (p .y) (t .1) }) in
-    omega (arith, level-most m (p .x) (p .y))
 
 pub below-inner : (m : ℕ) (p : Point) → level m (p .x) (p .y) < m → isCorner m p ≡ false
 below-inner m p l = false-by (isCorner m p) (λ e. let z : level m (p .x) (p .y) ≡ m = corner-level m p e in omega arith)
