@@ -11,7 +11,7 @@ use lib.Dec.{T, eqb}
 use lib.Pow.{pow-pos, pow-add}
 use borrow.Author.Tests.{eq-eqb, ne-eqb}
 use Rattle.grid.specs.Grid.{side, at, Inside}
-use Rattle.grid.specs.Points.{level, spacing, units, isCorner, isEnd}
+use Rattle.grid.specs.Points.{level, spacing, units, isCorner, outermost}
 use Rattle.grid.specs.declared.points.Point.{Point}
 use Rattle.grid.proofs.Table.{both}
 use Rattle.grid.proofs.Level.{Divides, level-units, level-divides, level-most, level-largest}
@@ -44,7 +44,7 @@ before s a h o =
     ap (λ (n : ℕ). n / (2 * s)) g ∙ mul-div-cancel-left (a / 2) (omega arith)
 
 -- x at a multiple of N, and at most N, is at an end
-at-end : (m a x : ℕ) → x ≡ side m * a → x ≤ side m → isEnd m x ≡ true
+at-end : (m a x : ℕ) → x ≡ side m * a → x ≤ side m → outermost m x ≡ true
 at-end m zero x e l =
     let z : x ≡ 0 = e ∙ mul-zero (side m) in rw z
 at-end m (suc a) x e l =
@@ -62,7 +62,7 @@ level-below m p h inner = by (ℕ-discrete (level m (p .x) (p .y)) m)
     by (yes e) =
         let ex : p .x ≡ side m * units m p .across = subst (λ (k : ℕ). p .x ≡ 2 ^ k * units m p .across) e (east-units m p) in
         let ey : p .y ≡ side m * units m p .up = subst (λ (k : ℕ). p .y ≡ 2 ^ k * units m p .up) e (north-units m p) in
-        let c : (isEnd m (p .x) && isEnd m (p .y)) ≡ true =
+        let c : (outermost m (p .x) && outermost m (p .y)) ≡ true =
         rw (at-end m (units m p .across) (p .x) ex (h .east), at-end m (units m p .up) (p .y) ey (h .north)) in
         absurd (true≢false (sym c ∙ inner))
 
@@ -110,7 +110,7 @@ view m p h inner =
         absurd (lt-irrefl j c)
 
 -- a coordinate at an end is 0 or N
-end-is : (m x : ℕ) → isEnd m x ≡ true → (x ≡ 0) ⊎ (x ≡ side m)
+end-is : (m x : ℕ) → outermost m x ≡ true → (x ≡ 0) ⊎ (x ≡ side m)
 end-is m x e = go (ℕ-discrete x 0) (ℕ-discrete x (side m))
   where
     go : Dec (x ≡ 0) → Dec (x ≡ side m) → (x ≡ 0) ⊎ (x ≡ side m)
@@ -118,10 +118,10 @@ end-is m x e = go (ℕ-discrete x 0) (ℕ-discrete x (side m))
     go (no n) (yes z) = inr z
     go (no n) (no k) = absurd (true≢false (sym e ∙ (λ i. ne-eqb x 0 n i || ne-eqb x (side m) k i)))
 
-end-divided : (m x : ℕ) → isEnd m x ≡ true → x % side m ≡ 0
+end-divided : (m x : ℕ) → outermost m x ≡ true → x % side m ≡ 0
 end-divided m x e = ⊎-elim (λ z. rw z (zero-mod (side m))) (λ z. rw z (mod-self (side m))) (end-is m x e)
 
-end-inside : (m x : ℕ) → isEnd m x ≡ true → x ≤ side m
+end-inside : (m x : ℕ) → outermost m x ≡ true → x ≤ side m
 end-inside m x e = ⊎-elim (λ z. omega arith) (λ z. omega arith) (end-is m x e)
 
 holds : (t : Bool) → T t → t ≡ true
@@ -129,11 +129,11 @@ holds true h = refl
 holds false h = absurd h
 
 -- both coordinates of a grid corner are at an end
-corner-ends : (m : ℕ) (p : Point) → isCorner m p ≡ true → (isEnd m (p .x) ≡ true) × (isEnd m (p .y) ≡ true)
+corner-ends : (m : ℕ) (p : Point) → isCorner m p ≡ true → (outermost m (p .x) ≡ true) × (outermost m (p .y) ≡ true)
 unfolding isCorner
 corner-ends m p e =
-    let t = both (isEnd m (p .x)) (isEnd m (p .y)) (subst T (sym e) tt) in
-    (holds (isEnd m (p .x)) (t .0), holds (isEnd m (p .y)) (t .1))
+    let t = both (outermost m (p .x)) (outermost m (p .y)) (subst T (sym e) tt) in
+    (holds (outermost m (p .x)) (t .0), holds (outermost m (p .y)) (t .1))
 
 pub corner-inside : (m : ℕ) (p : Point) → isCorner m p ≡ true → Inside m p
 corner-inside m p e =

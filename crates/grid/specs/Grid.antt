@@ -9,13 +9,20 @@ use mathlib.Core.Path.{_≡_}
 use Rattle.grid.specs.declared.points.Point.{Point}
 use Rattle.grid.specs.declared.Grid.{Grid}
 
--- -32768 means void. Heights run from -32767 to 32767.
+-- heights run from -32767 to 32767
+abbrev pub highest : ℕ
+highest = 32767
+
+abbrev pub Height : ℤ → Type 0
+Height h = natAbs h ≤ highest
+
+-- the number below the lowest height, -32768, means void (`negsuc n` is -(n + 1))
 abbrev pub void : ℤ
-void = negsuc 32767
+void = negsuc highest
 
 abbrev pub isVoid : ℤ → Bool
 isVoid (pos n) = false
-isVoid (negsuc n) = eqb n 32767
+isVoid (negsuc n) = eqb n highest
 
 -- a point of a query is given in quarter cells
 abbrev pub quarters : ℕ
@@ -68,15 +75,15 @@ entries f i (suc n) = f i ∷ entries f (suc i) n
 unfoldable pub onGrid : {A : Type 0} → ℕ → (Point → A) → List A
 onGrid m f = entries (λ i. f (point m i)) 0 (samples m)
 
--- halfway between two points
+-- the midpoint of two points whose coordinates have even sums
 unfoldable pub middle : Point → Point → Point
 middle p q = at ((p .x + q .x) / 2) ((p .y + q .y) / 2)
 
--- halfway between two places
+-- the place of the midpoint of two such points, by their places
 abbrev pub midplace : ℕ → ℕ → ℕ
 midplace i j = (i + j) / 2
 
--- a height counted from the void mark: void is 0, heights are 1 to 65535
+-- a height counted from the void mark, as sums and means are worked out: void is 0, heights are 1 to 65535
 abbrev pub raise : ℤ → ℕ
 raise h = natAbs (h -ℤ void)
 

@@ -3,8 +3,8 @@ use Prim.Native.Nat.{ℕ, suc, _*_}
 use Rattle.grid.specs.Grid.{side, at, middle}
 use Rattle.grid.specs.declared.points.Point.{Point}
 
--- (l, a, r), apex a and longest side l to r, is a triangle with k cuts left: one of the two that the square starts as, or
--- a half of one with a cut more, cut at the middle of its longest side
+-- (l, a, r), apex a and longest side l to r, is a triangle with k cuts left: one of the two that the square starts as, with
+-- 2m; or a half, the first or the second, of one with k + 1 cuts left, cut at the midpoint of its longest side
 pub data Triangle (m : ℕ) : ℕ → Point → Point → Point → Type 0 where
   first : Triangle m (2 * m) (at 0 0) (at (side m) 0) (at (side m) (side m))
   second : Triangle m (2 * m) (at (side m) (side m)) (at 0 (side m)) (at 0 0)

@@ -13,6 +13,6 @@ goodMark corner mark =
 abbrev pub keptMark : ℕ → Bool
 keptMark mark = eqb mark 1 || eqb mark 2 || eqb mark 3 || eqb mark 6
 
--- the sample was void: 4 was added to the mark
+-- a mark of 4 or more: of a good mark, that the sample was void
 abbrev pub filledMark : ℕ → Bool
 filledMark mark = leb 4 mark

@@ -14,12 +14,13 @@ use Rattle.grid.specs.declared.points.Site.{Site}
 use Rattle.grid.specs.declared.points.Kind.{Kind}
 use Rattle.grid.specs.declared.points.Kind.the-variants.{Corner, EastWest, NorthSouth, Rising, Falling}
 
--- the four grid corners
-abbrev pub isEnd : ℕ → ℕ → Bool
-isEnd m c = eqb c 0 || eqb c (side m)
+-- the first or the last column or row
+abbrev pub outermost : ℕ → ℕ → Bool
+outermost m c = eqb c 0 || eqb c (side m)
 
+-- the four grid corners
 unfoldable pub isCorner : ℕ → Point → Bool
-isCorner m p = isEnd m (p .x) && isEnd m (p .y)
+isCorner m p = outermost m (p .x) && outermost m (p .y)
 
 -- d divides both x and y (zero is divisible by all)
 abbrev pub dividesBoth : ℕ → ℕ → ℕ → Bool
@@ -30,7 +31,8 @@ unfoldable pub level : ℕ → ℕ → ℕ → ℕ
 level zero x y = 0
 level (suc j) x y = cond (dividesBoth (2 ^ suc j) x y) (suc j) (level j x y)
 
--- spacing: the largest power of two that divides both x and y (up to N, which bounds it at grid corners alone)
+-- spacing: the largest power of two that divides both x and y. (It is taken up to N, which bounds it at grid corners alone:
+-- they are given the spacing N.)
 unfoldable pub spacing : ℕ → Point → ℕ
 spacing m p = 2 ^ level m (p .x) (p .y)
 
@@ -43,11 +45,12 @@ odd n = eqb (n % 2) 1
 
 -- counted in units of 2s, the two coordinates are both odd or both even
 abbrev pub alike : ℕ → Point → Bool
-alike s p = eqb (p .x / (2 * s) % 2) (p .y / (2 * s) % 2)
+alike s p = eqb ((p .x / (2 * s)) % 2) ((p .y / (2 * s)) % 2)
 
 -- Centre point: x/s and y/s both odd. Of the four points (x±s, y±s), counted in units of 2s, one has both odd and one has
 -- both even: they are opposite, so they are (x-s, y-s) and (x+s, y+s), Rising, or else the other two, Falling.
--- Edge point: exactly one of x/s and y/s is odd, and the ends lie along that axis. (Both are even at grid corners alone.)
+-- Edge point: exactly one of x/s and y/s is odd, and the ends lie along that axis. (Grid corners are taken out first; of
+-- the rest none has both even.)
 abbrev pub kindBy : Bool → Bool → Bool → Kind
 kindBy true true rising = cond rising Rising Falling
 kindBy true false rising = EastWest
@@ -85,7 +88,7 @@ endsBy Falling s x y = diagonal false s x y
 unfoldable pub ends : ℕ → Point → Pair
 ends m p = endsBy (kind m p) (spacing m p) (p .x) (p .y)
 
--- the line that the kind names reaches s back: what the code asks before it subtracts
+-- a function that goes by the kind may ask that the line it names reaches s back, so that no difference falls below zero
 abbrev pub Back : Kind → ℕ → ℕ → ℕ → Type 0
 Back Corner s x y = Unit {0}
 Back EastWest s x y = s ≤ x
@@ -93,7 +96,7 @@ Back NorthSouth s x y = s ≤ y
 Back Rising s x y = (s ≤ x) × (s ≤ y)
 Back Falling s x y = (s ≤ x) × (s ≤ y)
 
--- the numbers s below and s above c that lie from 0 to n
+-- for c from 0 to n, the numbers s below and s above c that lie from 0 to n
 abbrev pub near : ℕ → ℕ → ℕ → List ℕ
 near n s c = cond (leb s c) ((c - s) ∷ []) [] ++ cond (leb (c + s) n) ((c + s) ∷ []) []
 
@@ -133,7 +136,8 @@ crossed n s x y = cond (eqb s 1) [] (crossing n (s / 2) x y)
 abbrev pub beside : ℕ → ℕ → ℕ → List Point
 beside s x y = at x (y - s) ∷ at (x - s) y ∷ at (x + s) y ∷ at x (y + s) ∷ []
 
--- the dependents of a point, those that depend on it, by rising place; of a grid corner, always kept, none are asked for
+-- the dependents of a point, those that depend on it, by rising place. Of grid corners, always kept, none are listed (the
+-- grid's centre depends on two of them).
 abbrev pub dependentsBy : Kind → ℕ → ℕ → ℕ → ℕ → List Point
 dependentsBy Corner n s x y = []
 dependentsBy EastWest n s x y = crossed n s x y
@@ -148,13 +152,14 @@ dependents m p = dependentsBy (kind m p) (side m) (spacing m p) (p .x) (p .y)
 abbrev pub listed : Few → List Point
 listed f = take (f .count) (f .points)
 
--- a value of the code lists just these points, and has room for four
+-- a value of the code lists just these points, and has room for four; what stands past the count is not listed
 pub record Listed (f : Few) (ps : List Point) : Type 0 where
   pub points : listed f ≡ ps
   pub count : f .count ≡ length ps
   pub room : length (f .points) ≡ 4
 
--- an edge point of spacing 2^j has rank 2j, a centre point 2j + 1
+-- Rank: an edge point of spacing 2^j has rank 2j, a centre point 2j + 1. What a point depends on has the next rank. By the
+-- same formula grid corners have rank 2m or 2m + 1, above all others.
 abbrev pub centreBit : Bool → Bool → ℕ
 centreBit true true = 1
 centreBit true false = 0

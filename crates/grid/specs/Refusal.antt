@@ -1,7 +1,7 @@
 -- The refusal numbers. Document 01, "What a call may turn down". Definitions only.
 use Prim.Native.Nat.{ℕ}
 
--- the call is not refused
+-- no refusal: the call is accepted
 abbrev pub accepted : ℕ
 accepted = 0
 
@@ -13,7 +13,7 @@ sizeAbove = 1
 abbrev pub wrongLength : ℕ
 wrongLength = 2
 
--- a grid corner is void; a corner of the final triangle has height -32768
+-- selection: a grid corner is void; height or plane: a corner of the final triangle has height -32768
 abbrev pub voidCorner : ℕ
 voidCorner = 3
 
@@ -33,7 +33,7 @@ badMark = 6
 abbrev pub notClosed : ℕ
 notClosed = 7
 
--- fewer than three entries per triangle
+-- fewer than three entries per triangle; the triangles needed are given with it
 abbrev pub noRoom : ℕ
 noRoom = 8
 

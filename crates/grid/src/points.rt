@@ -5,7 +5,7 @@ ghost use Prim.Native.Nat.{ℕ, _+_, _*_, _≤_, _<_};
 ghost use mathlib.Core.List.{_++_, _∷_, []};
 ghost use lib.ListN.{length};
 ghost use Rattle.grid.specs.Grid.{Sound, Inside, at};
-ghost use Rattle.grid.specs.Points.{units, isEnd, isCorner, site, pair, diagonal, both, endsBy, ends, Back, near, laid, inLine, crossing, crossed, beside, dependsBy, dependsOn, dependentsBy, dependents, listed, Listed};
+ghost use Rattle.grid.specs.Points.{units, outermost, isCorner, site, pair, diagonal, both, endsBy, ends, Back, near, laid, inLine, crossing, crossed, beside, dependsBy, dependsOn, dependentsBy, dependents, listed, Listed};
 
 // x cells east and y cells north of the south-west corner.
 pub struct Point {
@@ -74,9 +74,9 @@ pub fn units_of(g: Grid, p: Point) -> Units
 }
 
 // The first or the last column or row.
-fn is_end(g: Grid, c: u32) -> bool
+fn is_outermost(g: Grid, c: u32) -> bool
     requires { ⌜ Sound g ⌝ }
-    ensures { λ r. ⌜ r ≡ isEnd (g .m) c ⌝ }
+    ensures { λ r. ⌜ r ≡ outermost (g .m) c ⌝ }
 {
     if c == 0 {
         return true;
@@ -88,8 +88,8 @@ pub fn is_corner(g: Grid, p: Point) -> bool
     requires { ⌜ Sound g ⌝ }
     ensures { λ r. ⌜ r ≡ isCorner (g .m) p ⌝ }
 {
-    if is_end(g, p.x) {
-        return is_end(g, p.y);
+    if is_outermost(g, p.x) {
+        return is_outermost(g, p.y);
     }
     false
 }

@@ -10,7 +10,7 @@ use lib.Dec.{eqb, ltb}
 use lib.IntN.{ℤ, pos, negsuc, sucℤ, _+ℤ_, subℕ}
 use lib.Signed.{mag}
 use borrow.Author.Tests.{le-ltb, lt-ltb, ltb-true, ltb-false, ne-eqb, eq-eqb, eqb-false}
-use Rattle.grid.specs.Grid.{void, isVoid, raise, lower}
+use Rattle.grid.specs.Grid.{Height, isVoid, raise, lower}
 use Rattle.grid.proofs.Heights.{lower-fits, raise-below}
 use Rattle.survey.specs.Filled.{floorHalf, floorMean}
 
@@ -69,18 +69,22 @@ floor-half (negsuc n) = go (ℕ-discrete (n % 2) 1)
     go (yes e) = inl (ap negsuc (omega arith))
     go (no e) = inr (ap negsuc (omega arith))
 
--- a height of 16 bits that is not void
-pub record Height (z : ℤ) : Type 0 where
+-- a height of 16 bits, above the void mark
+pub record Above (z : ℤ) : Type 0 where
   pub fits : mag z < 32768
   pub above : 0 < raise z
 
+pub above-height : (z : ℤ) → Above z → Height z
+above-height (pos n) h = omega (arith, h .fits)
+above-height (negsuc n) h = let r = raise-minus n (h .fits) in omega (arith, h .fits, h .above)
+
 pub height-not-void : (z : ℤ) → Height z → isVoid z ≡ false
 height-not-void (pos n) h = refl
-height-not-void (negsuc n) h = ne-eqb n 32767 (λ e. let r = raise-minus n (h .fits) in omega (arith, h .above))
+height-not-void (negsuc n) h = ne-eqb n 32767 (λ e. omega arith)
 
-pub not-void-height : (z : ℤ) → mag z < 32768 → isVoid z ≡ false → Height z
-not-void-height (pos n) f e = record { fits = f; above = omega arith }
-not-void-height (negsuc n) f e =
+pub not-void-above : (z : ℤ) → mag z < 32768 → isVoid z ≡ false → Above z
+not-void-above (pos n) f e = record { fits = f; above = omega arith }
+not-void-above (negsuc n) f e =
     let d : n ≡ 32767 → ⊥ = eqb-false n 32767 e in
     record { fits = f; above = rw (raise-minus n f) (omega arith) }
 
@@ -92,9 +96,9 @@ raise-lower b h = go (ltb b 32768) refl
         let l : b < 32768 = ltb-true b 32768 e in raise-minus (32768 - suc b) (omega arith) ∙ omega arith
     go false e = let l : 32768 ≤ b = ltb-false b 32768 e in omega arith
 
--- the mean of two heights is a height: never void
-pub mean-height : (a b : ℤ) → Height a → Height b → Height (floorMean a b)
-mean-height a b h k =
+-- the mean of two heights above the void mark lies above it
+pub mean-above : (a b : ℤ) → Above a → Above b → Above (floorMean a b)
+mean-above a b h k =
     let s = (raise a + raise b) / 2 in
     let l : s < 65536 = omega (arith, raise-below a (h .fits), raise-below b (k .fits)) in
     let e : floorMean a b ≡ lower s = mean-raised a b (h .fits) (k .fits) in

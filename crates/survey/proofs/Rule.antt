@@ -8,14 +8,14 @@ use native.Mathlib.Omega.{arith}
 use lib.ListN.{length, getD}
 use lib.IntN.{ℤ}
 use lib.Signed.{mag}
-use Rattle.grid.specs.Grid.{void, isVoid, samples, place, point, Inside}
+use Rattle.grid.specs.Grid.{void, isVoid, Height, samples, place, point, Inside}
 use Rattle.grid.specs.Points.{isCorner, ends}
 use Rattle.grid.specs.declared.points.Point.{Point}
-use Rattle.grid.proofs.Places.{point-inside}
+use Rattle.grid.proofs.Places.{place-below, point-inside}
 use Rattle.grid.proofs.OnGrid.{length-onGrid, onGrid-point, is-onGrid}
 use Rattle.survey.specs.Filled.{floorMean, sample, heightAt, filled, Cornered}
 use Rattle.survey.specs.Rule.{Fills, Sixteen}
-use Rattle.survey.proofs.Mean.{Height, mean-height, height-not-void, not-void-height}
+use Rattle.survey.proofs.Mean.{Above, mean-above, above-height, height-not-void, not-void-above}
 use Rattle.survey.proofs.Filling.{depth, ends-up, depth-zero, height-surveyed, height-void}
 use Rattle.survey.proofs.Sweep.{sample-place}
 
@@ -34,16 +34,16 @@ module _ (m : ℕ) (survey : List ℤ) where
       record {
         long = length-filled;
         surveyed = λ p h n. filled-sample p h ∙ height-surveyed m survey p n;
-        void = λ p h v.
+        voids = λ p h inner v.
             let u = ends-up m p h in
             let a = filled-sample (ends m p .first) (u .0 .inside) in
             let b = filled-sample (ends m p .second) (u .1 .inside) in
             filled-sample p h ∙ height-void m survey p h v ∙ (λ i. floorMean (sym a i) (sym b i));
       }
 
-  small-sample : Sixteen survey → (p : Point) → mag (sample m survey p) < 32768
+  small-sample : length survey ≡ samples m → Sixteen survey → (p : Point) → Inside m p → mag (sample m survey p) < 32768
   unfolding sample
-  small-sample small p = small (place m p)
+  small-sample n small p h = small (place m p) (rw n (place-below m p h)) .sfits
 
   module _ (corners : Cornered m survey) where
     -- what holds of every surveyed point, and of a void where it holds of both its ends, holds of every point
@@ -66,6 +66,14 @@ module _ (m : ℕ) (survey : List ℤ) where
       pub from-ends : (p : Point) → Inside m p → P p
       from-ends p h = by-depth m p h (omega arith)
 
+    -- a void is no grid corner
+    inner : (p : Point) → isVoid (sample m survey p) ≡ true → isCorner m p ≡ false
+    inner p v = go (isCorner m p) refl
+      where
+        go : (t : Bool) → isCorner m p ≡ t → isCorner m p ≡ false
+        go true e = absurd (true≢false (sym v ∙ corners p e))
+        go false e = e
+
     -- no second answer: heights that follow the rule are the filled heights
     pub fills-only : (heights : List ℤ) → Fills m survey heights → heights ≡ filled m survey
     unfolding filled
@@ -75,19 +83,23 @@ module _ (m : ℕ) (survey : List ℤ) where
         same : (p : Point) → Inside m p → sample m heights p ≡ heightAt m survey p
         same p h =
             from-ends (λ q. sample m heights q ≡ heightAt m survey q) (λ q i n. f .surveyed q i n ∙ sym (height-surveyed m survey q n))
-            (λ q i v a b. f .void q i v ∙ (λ j. floorMean (a j) (b j)) ∙ sym (height-void m survey q i v))
+            (λ q i v a b. f .voids q i (inner q v) v ∙ (λ j. floorMean (a j) (b j)) ∙ sym (height-void m survey q i v))
             p
             h
 
-    -- no filled height is void: a default can't be taken for a missing sample
-    pub filled-heights : Sixteen survey → (p : Point) → Inside m p → Height (sample m (filled m survey) p)
-    filled-heights small p h =
-        rw (filled-sample p h)
-        (from-ends (λ q. Height (heightAt m survey q))
-        (λ q i n. rw (height-surveyed m survey q n) (not-void-height (sample m survey q) (small-sample small q) n))
-        (λ q i v a b. rw (height-void m survey q i v) (mean-height (heightAt m survey (ends m q .first)) (heightAt m survey (ends m q .second)) a b))
-        p
-        h)
+    module _ (n : length survey ≡ samples m) (small : Sixteen survey) where
+      all-above : (p : Point) → Inside m p → Above (heightAt m survey p)
+      all-above p h =
+          from-ends (λ q. Above (heightAt m survey q))
+          (λ q i k. rw (height-surveyed m survey q k) (not-void-above (sample m survey q) (small-sample n small q i) k))
+          (λ q i v a b. rw (height-void m survey q i v) (mean-above (heightAt m survey (ends m q .first)) (heightAt m survey (ends m q .second)) a b))
+          p
+          h
 
-    pub filled-not-void : Sixteen survey → (p : Point) → Inside m p → isVoid (sample m (filled m survey) p) ≡ false
-    filled-not-void small p h = height-not-void (sample m (filled m survey) p) (filled-heights small p h)
+      -- every filled height is a height, from -32767 to 32767
+      pub filled-height : (p : Point) → Inside m p → Height (sample m (filled m survey) p)
+      filled-height p h = rw (filled-sample p h) (above-height (heightAt m survey p) (all-above p h))
+
+      -- so none is void, and a default can't be taken for a missing sample
+      pub filled-not-void : (p : Point) → Inside m p → isVoid (sample m (filled m survey) p) ≡ false
+      filled-not-void p h = height-not-void (sample m (filled m survey) p) (filled-height p h)

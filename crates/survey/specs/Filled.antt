@@ -33,7 +33,7 @@ heightBy (suc d) m survey p =
     (floorMean (heightBy d m survey (ends m p .first)) (heightBy d m survey (ends m p .second)))
     (sample m survey p)
 
--- the height of a point: from any point the largest spacing is at most m ends away
+-- the height of a point: each step to an end at least doubles the spacing, so m steps reach a grid corner
 unfoldable pub heightAt : ℕ → List ℤ → Point → ℤ
 heightAt m survey p = heightBy m m survey p
 

@@ -5,20 +5,22 @@ use mathlib.Core.List.{List}
 use Prim.Native.Nat.{ℕ, _<_}
 use lib.ListN.{length, getD}
 use lib.IntN.{ℤ}
-use lib.Signed.{mag}
+use mir.Syntax.{w16}
+use mir.Val.{SFits}
 use Rattle.grid.specs.Grid.{void, isVoid, samples, Inside}
-use Rattle.grid.specs.Points.{ends}
+use Rattle.grid.specs.Points.{isCorner, ends}
 use Rattle.grid.specs.declared.points.Point.{Point}
 use Rattle.survey.specs.Filled.{floorMean, sample}
 
 -- heights are the filled heights of a survey: one for each sample; a surveyed sample keeps its height; the height of a void
--- is the floor of the mean of its two ends' heights, voids among them
+-- is the floor of the mean of its two ends' heights, voids among them. (A grid corner has no ends; selection refuses a
+-- survey with a void one.)
 pub record Fills (m : ℕ) (survey heights : List ℤ) : Type 0 where
   pub long : length heights ≡ samples m
   pub surveyed : (p : Point) → Inside m p → isVoid (sample m survey p) ≡ false → sample m heights p ≡ sample m survey p
-  pub void : (p : Point) → Inside m p → isVoid (sample m survey p) ≡ true →
+  pub voids : (p : Point) → Inside m p → isCorner m p ≡ false → isVoid (sample m survey p) ≡ true →
       sample m heights p ≡ floorMean (sample m heights (ends m p .first)) (sample m heights (ends m p .second))
 
--- the samples are numbers of 16 bits, as a survey of the code has them
+-- each sample is a number of 16 bits, as a survey of the code has them
 abbrev pub Sixteen : List ℤ → Type 0
-Sixteen survey = (i : ℕ) → mag (getD survey i void) < 32768
+Sixteen survey = (i : ℕ) → i < length survey → SFits w16 (getD survey i void)

@@ -6,11 +6,11 @@ use Rattle.grid.specs.Points.{isCorner}
 use Rattle.grid.proofs.points.is_corner.Statement.{statement}
 use Rattle.grid.proofs.points.is_corner.Tie as tie
 
-is-end-requires : tie.Need-is-end-requires
-is-end-requires c κs = search needs
+is-outermost-requires : tie.Need-is-outermost-requires
+is-outermost-requires c κs = search needs
 
-is-end-requires-2 : tie.Need-is-end-requires-2
-is-end-requires-2 c κs = search needs
+is-outermost-requires-2 : tie.Need-is-outermost-requires-2
+is-outermost-requires-2 c κs = search needs
 
 -- a test that came out as t is t in its conjunction
 came : {a r t : Bool} (b : Bool) → r ≡ a → r ≡ t → (t && b) ≡ (a && b)
@@ -18,11 +18,11 @@ came b e f = rw (← e, f)
 
 returns : tie.Need-returns
 unfolding isCorner
-returns c = c .is-end2 .ensures ∙ came _ (c .before .before .is-end .ensures) (c .before .if1 .taken)
+returns c = c .is-outermost2 .ensures ∙ came _ (c .before .before .is-outermost .ensures) (c .before .if1 .taken)
 
 returns-2 : tie.Need-returns-2
 unfolding isCorner
-returns-2 c = came _ (c .before .is-end .ensures) (c .if1 .left)
+returns-2 c = came _ (c .before .is-outermost .ensures) (c .if1 .left)
 
 pub is-corner-spec : {M : Type 1} → statement M
-is-corner-spec = tie.close (tie.spec is-end-requires is-end-requires-2 returns returns-2)
+is-corner-spec = tie.close (tie.spec is-outermost-requires is-outermost-requires-2 returns returns-2)
