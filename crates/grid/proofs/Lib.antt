@@ -16,3 +16,4 @@ pub mod Around
 pub mod Placed
 pub mod Dependence
 pub mod Cutting
+pub mod Rule

@@ -4,3 +4,4 @@ pub mod Mark
 pub mod Sizes
 pub mod Points
 pub mod Hierarchy
+pub mod Rule

@@ -1,0 +1,216 @@
+-- The spacing is the largest power of two dividing both coordinates, and a centre's ends are the two of the four points around
+-- it that have, in units of 2s, both coordinates odd or both even; it depends on the other two.
+use mathlib.Core.Path.{_≡_, refl, sym, ap, _∙_, subst}
+use mathlib.Core.Bool.{Bool, true, false, not}
+use mathlib.Core.List.{List, [], _∷_, List·Memᴰ, List·Memᴰ·head, List·Memᴰ·tail, List·Memᴰ·cases-cons, List·Memᴰ·eq-of-singleton}
+use mathlib.Core.Logic.{_⊎_, inl, inr, ⊎-elim, _↔_, _≢_}
+use Prim.Native.Nat.{ℕ, suc, _+_, _-_, _*_, _^_, _/_, _%_, _≤_, _<_}
+use native.Mathlib.Nat.{mul-assoc, mul-comm, mul-add, mul-one, mul-div-cancel-left, mod-mod-of-dvd, dvd-mul-right, zero-mod}
+use native.Mathlib.Decide.{ℕ-discrete, decLe}
+use native.Mathlib.Omega.{arith}
+use lib.Pow.{pow-mono, pow-add}
+use Rattle.grid.specs.Grid.{side, at, Inside}
+use Rattle.grid.specs.Points.{level, spacing, units, isCorner, kind, ends, endsBy, diagonal, both, dependsOn, dependsBy}
+use Rattle.grid.specs.Rule.{LargestPower, Around, BothOdd, BothEven, Centre}
+use Rattle.grid.specs.declared.points.Point.{Point}
+use Rattle.grid.proofs.Level.{Divides, level-divides, level-largest}
+use Rattle.grid.proofs.Spaced.{View, view, level-below, east-units, north-units, spacing-positive, before}
+use Rattle.grid.proofs.Parity.{Sort, eastWest, northSouth, rising, falling, sort}
+use Rattle.grid.proofs.Room.{Reached, room}
+use Rattle.grid.proofs.Around.{same-point}
+
+-- 2^k divides x where 2^j does and k is at most j
+divides-less : (k j x : ℕ) → k ≤ j → x % 2 ^ j ≡ 0 → x % 2 ^ k ≡ 0
+divides-less k j x l e =
+    let d : j ≡ k + (j - k) = omega arith in
+    let f : 2 ^ j ≡ 2 ^ k * 2 ^ (j - k) = ap (λ (n : ℕ). 2 ^ n) d ∙ pow-add 2 k (j - k) in
+    sym (mod-mod-of-dvd (2 ^ k) x (dvd-mul-right (2 ^ k) (2 ^ (j - k)))) ∙ ap (λ (n : ℕ). x % n % 2 ^ k) (sym f)
+    ∙ ap (λ (n : ℕ). n % 2 ^ k) e
+    ∙ zero-mod (2 ^ k)
+
+pub spacing-largest : (m : ℕ) (p : Point) → Inside m p → isCorner m p ≡ false → LargestPower (p .x) (p .y) (spacing m p)
+unfolding spacing
+spacing-largest m p h inner =
+    let j = level m (p .x) (p .y) in
+    let d = level-divides m (p .x) (p .y) in
+    let below : j < m = level-below m p h inner in
+    record {
+      exponent = j;
+      power = refl;
+      east = d .east;
+      north = d .north;
+      largest = λ k ex ey. pow-mono (go k ex ey (decLe k m));
+    }
+  where
+    go : (k : ℕ) → p .x % 2 ^ k ≡ 0 → p .y % 2 ^ k ≡ 0 → Dec (k ≤ m) → k ≤ level m (p .x) (p .y)
+    go k ex ey (yes l) = level-largest m k (p .x) (p .y) l (record { east = ex; north = ey })
+    go k ex ey (no l) =
+        let below : level m (p .x) (p .y) < m = level-below m p h inner in
+        let top : m ≤ level m (p .x) (p .y) =
+        level-largest m m (p .x) (p .y) (omega arith)
+        (record { east = divides-less m k (p .x) (omega arith) ex; north = divides-less m k (p .y) (omega arith) ey }) in
+        absurd (native.Mathlib.Nat.lt-irrefl m (omega arith))
+
+-- a coordinate that is an odd number of s, its neighbours s away, and both counted in units of 2s: h and h + 1
+record Sides (s c h : ℕ) : Type 0 where
+  positive : 0 < s
+  back : c - s + s ≡ c
+  low : (c - s) / (2 * s) ≡ h
+  high : (c + s) / (2 * s) ≡ h + 1
+
+sides : (s a c : ℕ) → 0 < s → s ≤ c → c ≡ s * a → a % 2 ≡ 1 → Sides s c (a / 2)
+sides s a c pos l e o =
+    let d : a ≡ 2 * (a / 2) + 1 = omega arith in
+    let f : s * a ≡ 2 * s * (a / 2) + s =
+    ap (λ (n : ℕ). s * n) d ∙ mul-add s (2 * (a / 2)) 1
+    ∙ (let g : s * (2 * (a / 2)) ≡ 2 * s * (a / 2) = sym (mul-assoc s 2 (a / 2)) ∙ ap (λ (n : ℕ). n * (a / 2)) (mul-comm s 2) in
+    omega (arith, mul-one s)) in
+    let u : c + s ≡ 2 * s * (a / 2 + 1) =
+    let g : 2 * s * (a / 2 + 1) ≡ 2 * s * (a / 2) + 2 * s = mul-add (2 * s) (a / 2) 1 ∙ ap (λ (n : ℕ). 2 * s * (a / 2) + n) (mul-one (2 * s)) in
+    omega arith in
+    record {
+      positive = pos;
+      back = omega arith;
+      low = ap (λ (n : ℕ). (n - s) / (2 * s)) e ∙ before s a pos o;
+      high = ap (λ (n : ℕ). n / (2 * s)) u ∙ mul-div-cancel-left (a / 2 + 1) (omega arith);
+    }
+
+-- q is one of two points
+of-two : (q : Point) (a b c d : ℕ) →
+    List·Memᴰ q (at a b ∷ at c d ∷ []) ↔ (((q .x ≡ a) × (q .y ≡ b)) ⊎ ((q .x ≡ c) × (q .y ≡ d)))
+of-two q a b c d = (
+  λ i. ⊎-elim (λ e. inl (east e, north e)) (λ r. let e = List·Memᴰ·eq-of-singleton r in inr (east e, north e)) (List·Memᴰ·cases-cons i),
+  ⊎-elim (λ e. List·Memᴰ·head (same-point (e .0) (e .1))) (λ e. List·Memᴰ·tail (List·Memᴰ·head (same-point (e .0) (e .1)))),
+)
+  where
+    east : {r : Point} → q ≡ r → q .x ≡ r .x
+    east e = ap (λ (u : Point). u .x) e
+
+    north : {r : Point} → q ≡ r → q .y ≡ r .y
+    north e = ap (λ (u : Point). u .y) e
+
+module _ (s x y h k : ℕ) (X : Sides s x h) (Y : Sides s y k) where
+  -- q on the rising diagonal, or on the other
+  On : Bool → Point → Type 0
+  On true q = ((q .x ≡ x - s) × (q .y ≡ y - s)) ⊎ ((q .x ≡ x + s) × (q .y ≡ y + s))
+  On false q = ((q .x ≡ x + s) × (q .y ≡ y - s)) ⊎ ((q .x ≡ x - s) × (q .y ≡ y + s))
+
+  on-diagonal : (t : Bool) (q : Point) → List·Memᴰ q (both (diagonal t s x y)) ↔ On t q
+  unfolding On
+  on-diagonal true q = of-two q (x - s) (y - s) (x + s) (y + s)
+  on-diagonal false q = of-two q (x + s) (y - s) (x - s) (y + s)
+
+  low-around : {c : ℕ} {z g : ℕ} → Sides s z g → c ≡ z - s → (c + s ≡ z) ⊎ (c ≡ z + s)
+  low-around S e = inl (ap (λ (n : ℕ). n + s) e ∙ S .back)
+
+  on-around : (t : Bool) (q : Point) → On t q → Around s (at x y) q
+  unfolding On
+  on-around true q (inl e) = record { east = low-around X (e .0); north = low-around Y (e .1) }
+  on-around true q (inr e) = record { east = inr (e .0); north = inr (e .1) }
+  on-around false q (inl e) = record { east = inr (e .0); north = low-around Y (e .1) }
+  on-around false q (inr e) = record { east = low-around X (e .0); north = inr (e .1) }
+
+  around-by : (t : Bool) (q : Point) → (q .x + s ≡ x) ⊎ (q .x ≡ x + s) → (q .y + s ≡ y) ⊎ (q .y ≡ y + s) → On t q ⊎ On (not t) q
+  unfolding On
+  around-by true q (inl a) (inl b) = inl (inl (omega arith, omega arith))
+  around-by true q (inr a) (inr b) = inl (inr (a, b))
+  around-by true q (inr a) (inl b) = inr (inl (a, omega arith))
+  around-by true q (inl a) (inr b) = inr (inr (omega arith, b))
+  around-by false q (inl a) (inl b) = inr (inl (omega arith, omega arith))
+  around-by false q (inr a) (inr b) = inr (inr (a, b))
+  around-by false q (inr a) (inl b) = inl (inl (a, omega arith))
+  around-by false q (inl a) (inr b) = inl (inr (omega arith, b))
+
+  -- the two diagonals share no point
+  apart : (t : Bool) (q : Point) → On t q → On (not t) q → ⊥
+  unfolding On
+  apart true q (inl e) (inl f) = omega (arith, X .positive)
+  apart true q (inl e) (inr f) = omega (arith, Y .positive)
+  apart true q (inr e) (inl f) = omega (arith, Y .positive)
+  apart true q (inr e) (inr f) = omega (arith, X .positive)
+  apart false q (inl e) (inl f) = omega (arith, X .positive)
+  apart false q (inl e) (inr f) = omega (arith, Y .positive)
+  apart false q (inr e) (inl f) = omega (arith, Y .positive)
+  apart false q (inr e) (inr f) = omega (arith, X .positive)
+
+  -- whether the diagonal t is the one whose points are alike in units of 2s
+  Alike : Bool → Type 0
+  Alike true = h % 2 ≡ k % 2
+  Alike false = h % 2 ≢ k % 2
+
+  in-units : (q : Point) {u v : ℕ} → (q .x ≡ u) × (q .y ≡ v) → {a b : ℕ} → u / (2 * s) ≡ a → v / (2 * s) ≡ b →
+      (q .x / (2 * s) ≡ a) × (q .y / (2 * s) ≡ b)
+  in-units q e f g = (ap (λ (n : ℕ). n / (2 * s)) (e .0) ∙ f, ap (λ (n : ℕ). n / (2 * s)) (e .1) ∙ g)
+
+  -- a point of the other diagonal has one odd and one even
+  mixed : (t : Bool) → Alike t → (q : Point) → On (not t) q → (q .x / (2 * s)) % 2 ≢ (q .y / (2 * s)) % 2
+  unfolding On Alike
+  mixed true a q (inl e) z = let u = in-units q e (X .high) (Y .low) in omega arith
+  mixed true a q (inr e) z = let u = in-units q e (X .low) (Y .high) in omega arith
+  mixed false a q (inl e) z = let u = in-units q e (X .low) (Y .low) in omega arith
+  mixed false a q (inr e) z = let u = in-units q e (X .high) (Y .high) in omega arith
+
+  -- of the two on the diagonal, one has both odd and one has both even
+  Parted : Bool → Type 0
+  Parted t =
+      (BothOdd s (diagonal t s x y .first) × BothEven s (diagonal t s x y .second)) ⊎
+      (BothEven s (diagonal t s x y .first) × BothOdd s (diagonal t s x y .second))
+
+  parted : (t : Bool) → Alike t → Dec (k % 2 ≡ 1) → Parted t
+  unfolding Alike Parted
+  parted true a (yes o) = inl (rw (X .low, Y .low, X .high, Y .high) ((omega arith, o), (omega arith, omega arith)))
+  parted true a (no e) = inr (rw (X .low, Y .low, X .high, Y .high) ((omega arith, omega arith), (omega arith, omega arith)))
+  parted false a (yes o) = inl (rw (X .low, Y .low, X .high, Y .high) ((omega arith, o), (omega arith, omega arith)))
+  parted false a (no e) = inr (rw (X .low, Y .low, X .high, Y .high) ((omega arith, omega arith), (omega arith, omega arith)))
+
+  same-parity : (q : Point) → BothOdd s q ⊎ BothEven s q → (q .x / (2 * s)) % 2 ≡ (q .y / (2 * s)) % 2
+  same-parity q b = ⊎-elim (λ o. o .0 ∙ sym (o .1)) (λ e. e .0 ∙ sym (e .1)) b
+
+  on-first : (t : Bool) → On t (diagonal t s x y .first)
+  unfolding On
+  on-first true = inl (refl, refl)
+  on-first false = inl (refl, refl)
+
+  on-second : (t : Bool) → On t (diagonal t s x y .second)
+  unfolding On
+  on-second true = inr (refl, refl)
+  on-second false = inr (refl, refl)
+
+  centre-by : (t : Bool) → Alike t → Centre s (at x y) (diagonal t s x y) (both (diagonal (not t) s x y))
+  unfolding Parted
+  centre-by t a =
+      record {
+        first = on-around t (diagonal t s x y .first) (on-first t);
+        second = on-around t (diagonal t s x y .second) (on-second t);
+        ends = parted t a (ℕ-discrete (k % 2) 1);
+        only = λ q r b.
+            ⊎-elim (λ o. on-diagonal t q .1 o) (λ o. absurd (mixed t a q o (same-parity q b))) (around-by t q (r .east) (r .north));
+        others = λ q. (
+          λ i. let o = on-diagonal (not t) q .0 i in (on-around (not t) q o, λ e. apart t q (on-diagonal t q .0 e) o),
+          λ r.
+              ⊎-elim (λ o. absurd (r .1 (on-diagonal t q .1 o))) (λ o. on-diagonal (not t) q .1 o) (around-by t q (r .0 .east) (r .0 .north)),
+        );
+      }
+
+-- a centre: x/s and y/s both odd
+pub centre : (m : ℕ) (p : Point) → Inside m p → isCorner m p ≡ false → units m p .across % 2 ≡ 1 → units m p .up % 2 ≡ 1 →
+    Centre (spacing m p) p (ends m p) (dependsOn m p)
+unfolding ends dependsOn Alike
+centre m p i inner oa ob = by (room m p i) (sort m p i inner)
+  where
+    east : spacing m p ≤ p .x → Sides (spacing m p) (p .x) (units m p .across / 2)
+    east l = sides (spacing m p) (units m p .across) (p .x) (spacing-positive m p) l (east-units m p) oa
+
+    north : spacing m p ≤ p .y → Sides (spacing m p) (p .y) (units m p .up / 2)
+    north l = sides (spacing m p) (units m p .up) (p .y) (spacing-positive m p) l (north-units m p) ob
+
+    by : Reached (kind m p) (side m) (spacing m p) (p .x) (p .y) → Sort m p →
+        Centre (spacing m p) p (endsBy (kind m p) (spacing m p) (p .x) (p .y)) (dependsBy (kind m p) (side m) (spacing m p) (p .x) (p .y))
+    by r (eastWest q a b) = absurd (omega arith)
+    by r (northSouth q a b) = absurd (omega arith)
+    by r (rising q a b e) =
+        let w = rw q at r in
+        rw q (centre-by (spacing m p) (p .x) (p .y) _ _ (east (w .0 .0)) (north (w .1 .0)) true e)
+    by r (falling q a b e) =
+        let w = rw q at r in
+        rw q (centre-by (spacing m p) (p .x) (p .y) _ _ (east (w .0 .0)) (north (w .1 .0)) false e)
