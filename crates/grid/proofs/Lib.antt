@@ -17,3 +17,5 @@ pub mod Placed
 pub mod Dependence
 pub mod Cutting
 pub mod Rule
+pub mod Turning
+pub mod Values

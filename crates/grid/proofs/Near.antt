@@ -3,34 +3,41 @@ use mathlib.Core.Path.{_≡_, refl, sym, ap, _∙_, subst}
 use mathlib.Core.List.{List, [], _∷_, _++_, append-nil, append-assoc}
 use Prim.Native.Nat.{ℕ, _+_, _-_, _<_, _≤_}
 use native.Mathlib.Omega.{arith}
-use lib.ListN.{length, length-append}
-use lib.Seq.{length-take-le}
+use lib.ListN.{length, replicate, length-append}
+use lib.Seq.{take-append-seam}
 use lib.Dec.{leb}
 use mathlib.Core.Bool.{Bool, true, false, cond}
 use borrow.Author.Tests.{le-leb, lt-leb}
-use Rattle.grid.specs.Points.{near, each, listed, Listed}
+use Rattle.grid.specs.Points.{near, each, listed, packed, Listed}
+use Rattle.grid.specs.Grid.{at}
 use Rattle.grid.specs.declared.points.Point.{Point}
 use Rattle.grid.specs.declared.points.Few.{Few}
 
--- a list of the code, by an equal list of points
+listed-packed : (ps : List Point) → listed (packed ps) ≡ ps
+listed-packed ps = take-append-seam ps (replicate (4 - length ps) (at 0 0))
+
+-- a value of the code that holds ps lists ps, and an equal list
+pub lists : {f : Few} {ps : List Point} → Listed f ps → listed f ≡ ps
+lists {ps = ps} h = ap listed (h .is) ∙ listed-packed ps
+
 pub relist : {f : Few} {ps qs : List Point} → Listed f ps → ps ≡ qs → Listed f qs
-relist {f} h e = subst (λ (l : List Point). Listed f l) e h
+relist h e = record { is = h .is ∙ ap packed e }
+
+-- it holds what it lists, and counts it
+pub itself : {f : Few} {ps : List Point} → Listed f ps → Listed f (listed f)
+itself h = relist h (sym (lists h))
+
+pub counts : {f : Few} {ps : List Point} → Listed f ps → f .count ≡ length ps
+counts h = ap (λ (g : Few). g .count) (h .is)
+
+-- grown by these points, it counts them too
+pub adds : {f g : Few} {ps : List Point} (qs : List Point) → Listed f ps → Listed g (listed f ++ qs) → g .count ≡ f .count + length qs
+adds {f} qs h k =
+    counts k ∙ length-append (listed f) qs ∙ ap (λ (n : ℕ). n + length qs) (ap length (lists h) ∙ sym (counts h))
 
 -- two steps of listing are one
 pub listed-then : {f g : Few} {ps : List Point} (qs : List Point) → Listed f ps → Listed g (listed f ++ qs) → Listed g (ps ++ qs)
-listed-then {f} {g} {ps} qs h k = relist k (ap (λ (l : List Point). l ++ qs) (h .points))
-
-module _ (f : Few) (few : f .count ≤ 4) (four : length (f .points) ≡ 4) where
-  listed-length : length (listed f) ≡ f .count
-  listed-length = length-take-le (f .count) (f .points) (omega arith)
-
-  -- a list of the code lists what it lists
-  pub itself : Listed f (listed f)
-  itself = record { points = refl; count = sym listed-length; room = four }
-
-  -- grown by these points, it counts them too
-  pub counts : {g : Few} (ps : List Point) → Listed g (listed f ++ ps) → g .count ≡ f .count + length ps
-  counts ps h = h .count ∙ length-append (listed f) ps ∙ ap (λ (n : ℕ). n + length ps) listed-length
+listed-then qs h k = relist k (ap (λ (l : List Point). l ++ qs) (lists h))
 
 module _ (at-each : ℕ → List Point) (n s c : ℕ) where
   near-both : s ≤ c → c + s ≤ n → each at-each (near n s c) ≡ at-each (c - s) ++ at-each (c + s)

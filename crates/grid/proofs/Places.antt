@@ -6,11 +6,11 @@ use native.Mathlib.Nat.{mul-add-div-right, mul-add-mod-self-right, div-eq-of-lt,
 use native.Mathlib.Nat.{mul-le-mul, mul-le-mul-right, one-mul, mul-assoc, add-mul, add-zero}
 use native.Mathlib.Omega.{arith}
 use lib.Pow.{pow-mono, pow-pos}
-use Rattle.grid.specs.Grid.{side, samples, at, place, point, middle, midplace, Inside, largest, gridOf, Sound}
+use Rattle.grid.specs.Grid.{side, samples, at, place, point, middle, midplace, Inside, largest, widest, gridOf, Sound}
 use Rattle.grid.specs.declared.Grid.{Grid}
 use Rattle.grid.specs.declared.points.Point.{Point}
 
-pub side-small : {m : ℕ} → m ≤ largest → side m ≤ 128
+pub side-small : {m : ℕ} → m ≤ largest → side m ≤ widest
 side-small h = pow-mono h
 
 -- the grid of one of the eight sizes
@@ -25,9 +25,9 @@ place-below m p h =
     add-mul (side m) 1 (side m + 1) ∙ ap (λ (n : ℕ). side m * (side m + 1) + n) (one-mul (side m + 1)) in
     omega (arith, h .east)
 
-pub samples-small : {m : ℕ} → m ≤ largest → samples m ≤ 16641
+pub samples-small : {m : ℕ} → m ≤ largest → samples m ≤ samples largest
 samples-small {m} h =
-    let e : side m + 1 ≤ 129 = omega (arith, side-small h) in
+    let e : side m + 1 ≤ widest + 1 = omega (arith, side-small h) in
     mul-le-mul e e
 
 pub point-place : (m : ℕ) (p : Point) → Inside m p → point m (place m p) ≡ p

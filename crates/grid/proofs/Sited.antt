@@ -3,7 +3,7 @@ use mathlib.Core.Path.{_≡_, refl, sym, ap, _∙_, subst}
 use mathlib.Core.List.{List}
 use Prim.Native.Nat.{ℕ, _≤_}
 use native.Mathlib.Omega.{arith}
-use Rattle.grid.specs.Grid.{side, Sound, Inside}
+use Rattle.grid.specs.Grid.{side, Sound, Inside, widest}
 use Rattle.grid.specs.Points.{site, kind, spacing, Back}
 use Rattle.grid.specs.declared.Grid.{Grid}
 use Rattle.grid.specs.declared.points.Point.{Point}
@@ -13,11 +13,11 @@ use Rattle.grid.proofs.Places.{side-small}
 use Rattle.grid.proofs.Room.{room, behind, spacing-side}
 
 module _ (g : Grid) (p : Point) (t : Site) (e : t ≡ site (g .m) p) (s : Sound g) where
-  pub asked : Inside (g .m) p → (t .spacing ≤ 128) × (p .x ≤ 128) × (p .y ≤ 128) × Back (t .kind) (t .spacing) (p .x) (p .y)
+  pub asked : Inside (g .m) p → (t .spacing ≤ widest) × (p .x ≤ widest) × (p .y ≤ widest) × Back (t .kind) (t .spacing) (p .x) (p .y)
   unfolding site
   asked h =
-      let n : side (g .m) ≤ 128 = side-small (s .small) in
-      let l : spacing (g .m) p ≤ 128 = omega (arith, spacing-side (g .m) p) in
+      let n : side (g .m) ≤ widest = side-small (s .small) in
+      let l : spacing (g .m) p ≤ widest = omega (arith, spacing-side (g .m) p) in
       rw e (
         l,
         omega (arith, h .east),

@@ -36,6 +36,10 @@ largest = 7
 abbrev pub side : ℕ → ℕ
 side m = 2 ^ m
 
+-- the largest N
+abbrev pub widest : ℕ
+widest = side largest
+
 -- the grid of size m
 abbrev pub gridOf : ℕ → Grid
 gridOf m = record { m = m; side = side m }
@@ -48,6 +52,10 @@ pub record Sound (g : Grid) : Type 0 where
 -- the grid has (N+1)² samples
 abbrev pub samples : ℕ → ℕ
 samples m = (side m + 1) * (side m + 1)
+
+-- a point is given in quarter cells, 0 to 4N each way
+abbrev pub inQuarters : ℕ → ℕ
+inQuarters m = quarters * side m
 
 -- the point (x, y): x east, y north
 abbrev pub at : ℕ → ℕ → Point

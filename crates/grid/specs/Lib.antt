@@ -4,4 +4,5 @@ pub mod Mark
 pub mod Sizes
 pub mod Points
 pub mod Hierarchy
+pub mod Turn
 pub mod Rule

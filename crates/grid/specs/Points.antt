@@ -1,10 +1,10 @@
 -- Points, ends and dependencies. Document 01, the section of that name (document 001, section 2.1). Definitions only.
 use mathlib.Core.Bool.{Bool, true, false, cond, _&&_, _||_}
+use mathlib.Core.Path.{_≡_}
 use mathlib.Core.List.{List, [], _∷_, _++_}
 use Prim.Native.Nat.{ℕ, zero, suc, _+_, _-_, _*_, _^_, _/_, _%_, _≤_}
 use lib.Dec.{eqb, leb}
-use lib.ListN.{take, length}
-use mathlib.Core.Path.{_≡_}
+use lib.ListN.{take, length, replicate}
 use Rattle.grid.specs.Grid.{side, at}
 use Rattle.grid.specs.declared.points.Point.{Point}
 use Rattle.grid.specs.declared.points.Pair.{Pair}
@@ -148,15 +148,17 @@ dependentsBy Falling n s x y = beside s x y
 unfoldable pub dependents : ℕ → Point → List Point
 dependents m p = dependentsBy (kind m p) (side m) (spacing m p) (p .x) (p .y)
 
--- the points that a value of the code lists
+-- how a value of the code holds at most four points: their number, the points, and (0, 0) in the places left over
+abbrev pub packed : List Point → Few
+packed ps = record { count = length ps; points = ps ++ replicate (4 - length ps) (at 0 0) }
+
+-- the points that it holds
 abbrev pub listed : Few → List Point
 listed f = take (f .count) (f .points)
 
--- a value of the code lists just these points, and has room for four; what stands past the count is not listed
+-- a value of the code that holds just these points
 pub record Listed (f : Few) (ps : List Point) : Type 0 where
-  pub points : listed f ≡ ps
-  pub count : f .count ≡ length ps
-  pub room : length (f .points) ≡ 4
+  pub is : f ≡ packed ps
 
 -- Rank: an edge point of spacing 2^j has rank 2j, a centre point 2j + 1. What a point depends on has the next rank. By the
 -- same formula grid corners have rank 2m or 2m + 1, above all others.

@@ -1,4 +1,5 @@
 -- The refusal numbers. Document 01, "What a call may turn down". Definitions only.
+use mathlib.Core.List.{List, [], _∷_}
 use Prim.Native.Nat.{ℕ}
 
 -- no refusal: the call is accepted
@@ -40,3 +41,8 @@ noRoom = 8
 -- program only: input form
 abbrev pub inputForm : ℕ
 inputForm = 9
+
+-- all of them, by number
+abbrev pub numbers : List ℕ
+numbers =
+    accepted ∷ sizeAbove ∷ wrongLength ∷ voidCorner ∷ toleranceAbove ∷ pointBeyond ∷ badMark ∷ notClosed ∷ noRoom ∷ inputForm ∷ []

@@ -6,8 +6,8 @@ pub mod sizes;
 
 use points::Point;
 ghost use mathlib.Core.Path.{_≡_};
-ghost use Prim.Native.Nat.{_+_, _<_};
-ghost use Rattle.grid.specs.Grid.{Sound, Inside, place, point, samples, midplace, isVoid, raise, lower, void};
+ghost use Prim.Native.Nat.{_<_, _≤_};
+ghost use Rattle.grid.specs.Grid.{Sound, Inside, largest, place, point, samples, midplace, inQuarters, isVoid, raise, lower};
 
 // A grid of size m, with N = 2^m cells a side.
 pub struct Grid {
@@ -42,10 +42,18 @@ impl Grid {
 
     // Of two places, and so of two points: a place is linear in its point.
     pub fn midpoint(i: usize, j: usize) -> usize
-        requires { ⌜ (i < 65536) × (j < 65536) ⌝ }
+        requires { ⌜ (i ≤ samples largest) × (j ≤ samples largest) ⌝ }
         ensures { λ r. ⌜ r ≡ midplace i j ⌝ }
     {
         (i + j) / 2
+    }
+
+    // 4N: as far as a point in quarter cells may lie.
+    pub fn in_quarters(self) -> u32
+        requires { ⌜ Sound self ⌝ }
+        ensures { λ r. ⌜ r ≡ inQuarters (self .m) ⌝ }
+    {
+        Grid::QUARTERS * self.side
     }
 
     pub fn is_void(h: i16) -> bool

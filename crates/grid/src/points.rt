@@ -3,8 +3,7 @@ use super::Grid;
 ghost use mathlib.Core.Path.{_≡_};
 ghost use Prim.Native.Nat.{ℕ, _+_, _*_, _≤_, _<_};
 ghost use mathlib.Core.List.{_++_, _∷_, []};
-ghost use lib.ListN.{length};
-ghost use Rattle.grid.specs.Grid.{Sound, Inside, at};
+ghost use Rattle.grid.specs.Grid.{Sound, Inside, widest, at};
 ghost use Rattle.grid.specs.Points.{units, outermost, isCorner, site, pair, diagonal, both, endsBy, ends, Back, near, laid, inLine, crossing, crossed, beside, dependsBy, dependsOn, dependentsBy, dependents, listed, Listed};
 
 // x cells east and y cells north of the south-west corner.
@@ -141,7 +140,7 @@ fn pair_of(ax: u32, ay: u32, bx: u32, by: u32) -> Pair
 
 // Of the four points around a centre, the two on one diagonal.
 fn diagonal(rising: bool, s: u32, x: u32, y: u32) -> Pair
-    requires { ⌜ (s ≤ x) × (s ≤ y) × (x ≤ 128) × (y ≤ 128) ⌝ }
+    requires { ⌜ (s ≤ x) × (s ≤ y) × (x ≤ widest) × (y ≤ widest) ⌝ }
     ensures { λ r. ⌜ r ≡ diagonal rising s x y ⌝ }
 {
     if rising {
@@ -152,7 +151,7 @@ fn diagonal(rising: bool, s: u32, x: u32, y: u32) -> Pair
 
 // The two points s away on the line that the kind names.
 fn ends_by(kind: Kind, s: u32, x: u32, y: u32) -> Pair
-    requires { ⌜ (s ≤ 128) × (x ≤ 128) × (y ≤ 128) × Back kind s x y ⌝ }
+    requires { ⌜ (s ≤ widest) × (x ≤ widest) × (y ≤ widest) × Back kind s x y ⌝ }
     ensures { λ r. ⌜ r ≡ endsBy kind s x y ⌝ }
 {
     match kind {
@@ -185,7 +184,7 @@ impl Few {
 
     // One point more, of a higher place.
     pub fn with(mut self, p: Point) -> Few
-        requires { ⌜ (self .count < 4) × (length (self .points) ≡ 4) ⌝ }
+        requires { ⌜ Listed self (listed self) × (self .count < 4) ⌝ }
         ensures { λ r. ⌜ Listed r (listed self ++ p ∷ []) ⌝ }
     {
         let at = self.count;
@@ -212,7 +211,7 @@ fn laid(turned: bool, a: u32, b: u32) -> Point
 
 // The points on the line beside b that lie s before and s after a, those inside, behind what few lists.
 fn in_line(few: Few, turned: bool, n: u32, s: u32, a: u32, b: u32) -> Few
-    requires { ⌜ (s ≤ 128) × (a ≤ 128) × (few .count ≤ 2) × (length (few .points) ≡ 4) ⌝ }
+    requires { ⌜ (s ≤ widest) × (a ≤ widest) × Listed few (listed few) × (few .count ≤ 2) ⌝ }
     ensures { λ r. ⌜ Listed r (listed few ++ inLine turned b (near n s a)) ⌝ }
 {
     if s <= a {
@@ -230,7 +229,7 @@ fn in_line(few: Few, turned: bool, n: u32, s: u32, a: u32, b: u32) -> Few
 
 // The points h away both ways, those inside.
 fn crossing(n: u32, h: u32, x: u32, y: u32) -> Few
-    requires { ⌜ (h ≤ 128) × (x ≤ 128) × (y ≤ 128) ⌝ }
+    requires { ⌜ (h ≤ widest) × (x ≤ widest) × (y ≤ widest) ⌝ }
     ensures { λ r. ⌜ Listed r (crossing n h x y) ⌝ }
 {
     let few = Few::none();
@@ -248,7 +247,7 @@ fn crossing(n: u32, h: u32, x: u32, y: u32) -> Few
 }
 
 fn crossed(n: u32, s: u32, x: u32, y: u32) -> Few
-    requires { ⌜ (s ≤ 128) × (x ≤ 128) × (y ≤ 128) ⌝ }
+    requires { ⌜ (s ≤ widest) × (x ≤ widest) × (y ≤ widest) ⌝ }
     ensures { λ r. ⌜ Listed r (crossed n s x y) ⌝ }
 {
     if s == 1 {
@@ -258,7 +257,7 @@ fn crossed(n: u32, s: u32, x: u32, y: u32) -> Few
 }
 
 fn beside(s: u32, x: u32, y: u32) -> Few
-    requires { ⌜ (s ≤ x) × (s ≤ y) × (x ≤ 128) × (y ≤ 128) ⌝ }
+    requires { ⌜ (s ≤ x) × (s ≤ y) × (x ≤ widest) × (y ≤ widest) ⌝ }
     ensures { λ r. ⌜ Listed r (beside s x y) ⌝ }
 {
     let low = both(pair_of(x, y - s, x - s, y));
@@ -267,7 +266,7 @@ fn beside(s: u32, x: u32, y: u32) -> Few
 }
 
 fn depends_by(kind: Kind, n: u32, s: u32, x: u32, y: u32) -> Few
-    requires { ⌜ (s ≤ 128) × (x ≤ 128) × (y ≤ 128) × Back kind s x y ⌝ }
+    requires { ⌜ (s ≤ widest) × (x ≤ widest) × (y ≤ widest) × Back kind s x y ⌝ }
     ensures { λ r. ⌜ Listed r (dependsBy kind n s x y) ⌝ }
 {
     let few = Few::none();
@@ -281,7 +280,7 @@ fn depends_by(kind: Kind, n: u32, s: u32, x: u32, y: u32) -> Few
 }
 
 fn dependents_by(kind: Kind, n: u32, s: u32, x: u32, y: u32) -> Few
-    requires { ⌜ (s ≤ 128) × (x ≤ 128) × (y ≤ 128) × Back kind s x y ⌝ }
+    requires { ⌜ (s ≤ widest) × (x ≤ widest) × (y ≤ widest) × Back kind s x y ⌝ }
     ensures { λ r. ⌜ Listed r (dependentsBy kind n s x y) ⌝ }
 {
     match kind {

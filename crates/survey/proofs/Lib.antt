@@ -3,3 +3,4 @@ pub mod Filling
 pub mod Partial
 pub mod Sweep
 pub mod Rule
+pub mod Values

@@ -14,14 +14,14 @@ fn halved(sum: u32) -> u32
     sum / 2
 }
 
-pub fn floor_mean(a: i16, b: i16) -> i16
+fn floor_mean(a: i16, b: i16) -> i16
     ensures { λ r. ⌜ r ≡ floorMean a b ⌝ }
 {
     Grid::lowered(halved(Grid::raised(a) + Grid::raised(b)))
 }
 
 // Recurses to the ends; what was found is kept in heights, so that no height is worked out twice.
-pub fn height_of(g: Grid, p: Point, heights: &mut [i16]) -> i16
+fn height_of(g: Grid, p: Point, heights: &mut [i16]) -> i16
     requires { ⌜ Sound g × Inside (g .m) p × (length (now heights) ≡ samples (g .m)) × Cornered (g .m) (now heights) ⌝ }
     ensures { λ r. ⌜ Found (g .m) (now (heights .entry)) (now (heights .exit)) p r ⌝ }
 {

@@ -4,18 +4,18 @@ use Prim.Native.Nat.{ℕ, _+_, _*_, _<_, _≤_}
 use native.Mathlib.Nat.{mul-le-mul}
 use native.Mathlib.Omega.{arith}
 use borrow.Author.Needs.{needs}
-use Rattle.grid.specs.Grid.{place, Sound, Inside}
+use Rattle.grid.specs.Grid.{place, Sound, Inside, widest}
 use Rattle.grid.specs.declared.Grid.{Grid}
 use Rattle.grid.specs.declared.points.Point.{Point}
 use Rattle.grid.proofs.Places.{side-small}
 use Rattle.grid.proofs.Grid.place.Statement.{statement}
 use Rattle.grid.proofs.Grid.place.Tie as tie
 
-bound : (g : Grid) (p : Point) → Sound g → Inside (g .m) p → (p .y * (g .side + 1) ≤ 128 * 129) × (p .x ≤ 128)
+bound : (g : Grid) (p : Point) → Sound g → Inside (g .m) p → (p .y * (g .side + 1) ≤ widest * (widest + 1)) × (p .x ≤ widest)
 bound g p s h =
-    let n : g .side ≤ 128 = omega (arith, s .sided, side-small (s .small)) in
-    let y : p .y ≤ 128 = omega (arith, h .north, side-small (s .small)) in
-    let row : g .side + 1 ≤ 129 = omega arith in
+    let n : g .side ≤ widest = omega (arith, s .sided, side-small (s .small)) in
+    let y : p .y ≤ widest = omega (arith, h .north, side-small (s .small)) in
+    let row : g .side + 1 ≤ widest + 1 = omega arith in
     (mul-le-mul y row, omega (arith, h .east, side-small (s .small)))
 
 cast-result : tie.Need-cast-result

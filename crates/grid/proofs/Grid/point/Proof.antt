@@ -3,13 +3,13 @@ use mathlib.Core.Path.{_≡_, refl, sym, ap, _∙_}
 use Prim.Native.Nat.{ℕ, _+_, _*_, _<_, _≤_, _%_, _/_}
 use native.Mathlib.Omega.{arith}
 use borrow.Author.Needs.{needs}
-use Rattle.grid.specs.Grid.{point, samples, Sound, Inside}
+use Rattle.grid.specs.Grid.{point, samples, Sound, Inside, widest}
 use Rattle.grid.specs.declared.Grid.{Grid}
 use Rattle.grid.proofs.Places.{side-small, point-inside}
 use Rattle.grid.proofs.Grid.point.Statement.{statement}
 use Rattle.grid.proofs.Grid.point.Tie as tie
 
-bound : (g : Grid) (i : ℕ) → Sound g → i < samples (g .m) → (i % (g .side + 1) ≤ 128) × (i / (g .side + 1) ≤ 128)
+bound : (g : Grid) (i : ℕ) → Sound g → i < samples (g .m) → (i % (g .side + 1) ≤ widest) × (i / (g .side + 1) ≤ widest)
 unfolding point
 bound g i s h =
     let l : Inside (g .m) (point (g .m) i) = point-inside (g .m) i h in

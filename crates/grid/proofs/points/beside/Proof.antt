@@ -2,7 +2,7 @@
 use mathlib.Core.Path.{ap}
 use native.Mathlib.Omega.{arith}
 use Rattle.grid.specs.Points.{both}
-use Rattle.grid.proofs.Near.{relist, listed-then}
+use Rattle.grid.proofs.Near.{relist, listed-then, itself, counts}
 use borrow.Author.Needs.{needs}
 use Rattle.grid.proofs.points.beside.Statement.{statement}
 use Rattle.grid.proofs.points.beside.Tie as tie
@@ -23,7 +23,9 @@ add-t7 : tie.Need-add-t7
 add-t7 c = search needs
 
 with-requires : tie.Need-with-requires
-with-requires c κs = search needs
+with-requires c κs =
+    let low = relist (c .both .ensures) (ap both (c .before .pair-of .ensures)) in
+    (itself low, omega (arith, counts low))
 
 add-t8 : tie.Need-add-t8
 add-t8 c = search needs
@@ -32,7 +34,7 @@ with-requires-2 : tie.Need-with-requires-2
 with-requires-2 c κs =
     let low = relist (c .before .both .ensures) (ap both (c .before .before .pair-of .ensures)) in
     let three = listed-then _ low (c .with .ensures) in
-    (omega (arith, three .count), three .room)
+    (itself three, omega (arith, counts three))
 
 returns : tie.Need-returns
 returns c =

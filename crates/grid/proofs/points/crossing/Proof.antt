@@ -6,7 +6,7 @@ use native.Mathlib.Omega.{arith}
 use mathlib.Core.Bool.{false}
 use Rattle.grid.specs.Points.{near, inLine, laid}
 use Rattle.grid.specs.declared.points.Point.{Point}
-use Rattle.grid.proofs.Near.{grown-both, grown-below, grown-above, grown-none, near-count, listed-then}
+use Rattle.grid.proofs.Near.{grown-both, grown-below, grown-above, grown-none, near-count, listed-then, itself, counts}
 use borrow.Author.Needs.{needs}
 use Rattle.grid.proofs.points.crossing.Statement.{statement}
 use Rattle.grid.proofs.points.crossing.Tie as tie
@@ -19,7 +19,8 @@ none-requires : tie.Need-none-requires
 none-requires c κs = search needs
 
 in-line-requires : tie.Need-in-line-requires
-in-line-requires c κs = search needs
+in-line-requires c κs =
+    let none = c .before .none .ensures in (omega arith, omega arith, itself none, omega (arith, counts none))
 
 add-if2 : tie.Need-add-if2
 add-if2 c = search needs
@@ -31,7 +32,7 @@ in-line-requires-2 : tie.Need-in-line-requires-2
 in-line-requires-2 c κs =
     let a = c .before .before .before .before .args in
     let low = listed-then _ (c .before .before .before .none .ensures) (c .before .in-line .ensures) in
-    (omega arith, omega arith, omega (arith, low .count, near-count (λ k. laid false k (a .y - a .h)) (a .n) (a .h) (a .x)), low .room)
+    (omega arith, omega arith, itself low, omega (arith, counts low, near-count (λ k. laid false k (a .y - a .h)) (a .n) (a .h) (a .x)))
 
 returns : tie.Need-returns
 returns c =
@@ -53,7 +54,8 @@ add-in-line-2 : tie.Need-add-in-line-2
 add-in-line-2 c = search needs
 
 in-line-requires-3 : tie.Need-in-line-requires-3
-in-line-requires-3 c κs = search needs
+in-line-requires-3 c κs =
+    let none = c .before .before .none .ensures in (omega arith, omega arith, itself none, omega (arith, counts none))
 
 returns-3 : tie.Need-returns-3
 returns-3 c =

@@ -39,7 +39,7 @@ beside-requires-2 c κs =
     (back .0, back .1, c .before .before .pre .1, c .before .before .pre .2)
 
 returns : tie.Need-returns
-returns c = search needs
+returns c = rw (c .before .enum-told .given .1) (c .none .ensures)
 
 returns-2 : tie.Need-returns-2
 returns-2 c = rw (c .before .enum-told2 .given .1) (c .crossed .ensures)

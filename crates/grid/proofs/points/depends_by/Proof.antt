@@ -1,7 +1,8 @@
 -- `grid::points::depends_by` meets its contract, kind by kind.
+use native.Mathlib.Omega.{arith}
 use mathlib.Core.Path.{ap}
 use Rattle.grid.specs.Points.{both}
-use Rattle.grid.proofs.Near.{relist, listed-then}
+use Rattle.grid.proofs.Near.{relist, listed-then, itself, counts}
 use borrow.Author.Needs.{needs}
 use Rattle.grid.proofs.points.depends_by.Statement.{statement}
 use Rattle.grid.proofs.points.depends_by.Tie as tie
@@ -16,13 +17,19 @@ enum-told-2 : tie.Need-enum-told-2
 enum-told-2 c = search needs
 
 in-line-requires : tie.Need-in-line-requires
-in-line-requires c κs = search needs
+in-line-requires c κs =
+    let none = c .before .before .none .ensures in
+    let pre = c .before .before .before .pre in
+    (pre .0, pre .2, itself none, omega (arith, counts none))
 
 enum-told-3 : tie.Need-enum-told-3
 enum-told-3 c = search needs
 
 in-line-requires-2 : tie.Need-in-line-requires-2
-in-line-requires-2 c κs = search needs
+in-line-requires-2 c κs =
+    let none = c .before .before .none .ensures in
+    let pre = c .before .before .before .pre in
+    (pre .0, pre .1, itself none, omega (arith, counts none))
 
 enum-told-4 : tie.Need-enum-told-4
 enum-told-4 c = search needs
@@ -47,7 +54,7 @@ both-requires-2 : tie.Need-both-requires-2
 both-requires-2 c κs = search needs
 
 returns : tie.Need-returns
-returns c = search needs
+returns c = rw (c .enum-told .given .1) (c .before .before .none .ensures)
 
 returns-2 : tie.Need-returns-2
 returns-2 c = rw (c .before .enum-told2 .given .1) (listed-then _ (c .before .before .before .none .ensures) (c .in-line .ensures))

@@ -7,7 +7,7 @@ use native.Mathlib.Omega.{arith}
 use borrow.Author.Needs.{needs}
 use Rattle.grid.specs.Points.{laid, listed}
 use Rattle.grid.specs.declared.points.Point.{Point}
-use Rattle.grid.proofs.Near.{grown-both, grown-below, grown-above, grown-none, itself, counts}
+use Rattle.grid.proofs.Near.{grown-both, grown-below, grown-above, grown-none, itself, adds}
 use Rattle.grid.proofs.points.in_line.Statement.{statement}
 use Rattle.grid.proofs.points.in_line.Tie as tie
 
@@ -37,8 +37,8 @@ laid-requires-2 c κs = search needs
 with-requires-2 : tie.Need-with-requires-2
 with-requires-2 c κs =
     let pre = c .before .before .before .before .before .pre in
-    let count = counts (c .before .before .before .before .before .args .few) (omega arith) (pre .3) _ (c .before .before .with .ensures) in
-    (omega (arith, count), c .before .before .with .ensures .room)
+    let low = c .before .before .with .ensures in
+    (itself low, omega (arith, adds _ (pre .2) low, pre .3))
 
 returns : tie.Need-returns
 returns c =
@@ -79,7 +79,7 @@ returns-4 : tie.Need-returns-4
 returns-4 c =
     let a = c .before .before .args in
     grown-none (one (a .turned) (a .b)) (a .n) (a .s) (a .a) (listed (a .few)) (c .before .if1 .left) (c .if3 .left)
-    (itself (a .few) (omega arith) (c .before .before .pre .3))
+    (c .before .before .pre .2)
 
 pub in-line-spec : {M : Type 1} → statement M
 in-line-spec =

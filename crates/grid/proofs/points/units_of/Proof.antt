@@ -6,6 +6,7 @@ use Prim.Native.Nat.{ℕ, zero, suc, _+_, _-_, _*_, _^_, _/_, _%_, _≤_, _<_}
 use native.Mathlib.Nat.{le-trans, le-of-eq, le-mul-of-pos-right, not-suc-le-zero, pow-suc, mul-one, one-mul, mul-assoc, mul-comm, mul-div-cancel-left}
 use native.Mathlib.Omega.{arith}
 use lib.Pow.{pow-pos}
+use Rattle.grid.specs.Grid.{largest, widest}
 use Rattle.grid.specs.Points.{level, spacing, units}
 use Rattle.grid.specs.declared.points.Units.{Units}
 use Rattle.grid.proofs.Level.{level-odd, level-even}
@@ -57,7 +58,7 @@ module _ {m x y : ℕ} where
       λ i. record { spacing = e i; across = ea i; up = eb i }
 
   -- s never passes N
-  bound : (left s a b : ℕ) → m ≤ 7 → Halved m x y left s a b → s ≤ 128
+  bound : (left s a b : ℕ) → m ≤ largest → Halved m x y left s a b → s ≤ widest
   bound left s a b l h =
       le-trans (le-mul-of-pos-right s (pow-pos left)) (le-trans (le-of-eq (sym (h .size))) (side-small l))
 

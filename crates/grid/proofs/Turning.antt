@@ -1,0 +1,83 @@
+-- A triangle of the hierarchy with k cuts left has the doubled area 2^k, and turns counter-clockwise, read l, a, r, where k is
+-- even, and read r, a, l, where k is odd: each half has half the doubled area and turns the other way.
+use mathlib.Core.Path.{_≡_, refl, sym, ap, _∙_}
+use mathlib.Core.Logic.{_⊎_, inl, inr}
+use Prim.Native.Nat.{ℕ, zero, suc, _+_, _*_, _^_, _%_}
+use native.Mathlib.Nat.{pow-suc, mul-assoc, add-mul, mul-add, mul-comm, mul-zero, zero-mul}
+use native.Mathlib.Omega.{arith}
+use lib.Pow.{pow-add}
+use Rattle.grid.specs.Grid.{side, at, middle}
+use Rattle.grid.specs.Turn.{onward, backward}
+use Rattle.grid.specs.Hierarchy.{Triangle, first, second, firstHalf, secondHalf}
+use Rattle.grid.specs.declared.points.Point.{Point}
+use Rattle.grid.proofs.Cutting.{Halfway, Cut, cut}
+
+-- twice a product with a midpoint's coordinate
+left-sum : (c u v w : ℕ) → 2 * c ≡ u + v → 2 * (c * w) ≡ u * w + v * w
+left-sum c u v w e = sym (mul-assoc 2 c w) ∙ ap (λ (n : ℕ). n * w) e ∙ add-mul u v w
+
+right-sum : (c u v w : ℕ) → 2 * c ≡ u + v → 2 * (w * c) ≡ w * u + w * v
+right-sum c u v w e = ap (λ (n : ℕ). 2 * n) (mul-comm w c) ∙ left-sum c u v w e ∙ (λ i. mul-comm u w i + mul-comm v w i)
+
+-- a half turns the other way, with half the doubled area
+module _ (l a r c : Point) (h : Halfway c l r) where
+  first-half : 2 * onward l c a + onward l a r ≡ 2 * backward l c a + backward l a r
+  first-half =
+      omega (
+        arith,
+        left-sum (c .x) (l .x) (r .x) (a .y) (h .east),
+        left-sum (c .x) (l .x) (r .x) (l .y) (h .east),
+        right-sum (c .y) (l .y) (r .y) (l .x) (h .north),
+        left-sum (c .y) (l .y) (r .y) (a .x) (h .north),
+        mul-comm (a .y) (r .x),
+        mul-comm (l .y) (a .x),
+        mul-comm (r .y) (a .x),
+        mul-comm (l .y) (r .x),
+        mul-comm (l .x) (l .y),
+      )
+
+  second-half : 2 * onward a c r + onward l a r ≡ 2 * backward a c r + backward l a r
+  second-half =
+      omega (
+        arith,
+        left-sum (c .x) (l .x) (r .x) (r .y) (h .east),
+        left-sum (c .x) (l .x) (r .x) (a .y) (h .east),
+        right-sum (c .y) (l .y) (r .y) (a .x) (h .north),
+        left-sum (c .y) (l .y) (r .y) (r .x) (h .north),
+        mul-comm (a .y) (r .x),
+        mul-comm (l .y) (a .x),
+        mul-comm (l .y) (r .x),
+        mul-comm (r .x) (r .y),
+      )
+
+-- (l, a, r) has the doubled area 2^k: onward where k is even, backward where it is odd
+pub record Turns (k : ℕ) (l a r : Point) : Type 0 where
+  pub even : k % 2 ≡ 0 → onward l a r ≡ backward l a r + 2 ^ k
+  pub odd : k % 2 ≡ 1 → backward l a r ≡ onward l a r + 2 ^ k
+
+half-turns : (k : ℕ) {l a r l′ a′ r′ : Point} → Turns (suc k) l a r →
+    2 * onward l′ a′ r′ + onward l a r ≡ 2 * backward l′ a′ r′ + backward l a r → Turns k l′ a′ r′
+half-turns k t e =
+    let d = pow-suc 2 k in
+    record {
+      even = λ z. let o = t .odd (omega arith) in omega arith;
+      odd = λ z. let o = t .even (omega arith) in omega arith;
+    }
+
+-- the square's two triangles have the doubled area N²
+whole-turns : (m : ℕ) {l a r : Point} → onward l a r ≡ side m * side m → backward l a r ≡ 0 → Turns (2 * m) l a r
+whole-turns m e f =
+    let n : 2 ^ (2 * m) ≡ side m * side m =
+    let d : 2 * m ≡ m + m = omega arith in ap (λ (k : ℕ). 2 ^ k) d ∙ pow-add 2 m m in
+    record { even = λ z. omega arith; odd = λ z. omega arith }
+
+halfway : {m k : ℕ} {l a r : Point} → Cut m k l a r → Halfway (middle l r) l r
+halfway c = record { east = c .east; north = c .north }
+
+pub turns : {m k : ℕ} {l a r : Point} → Triangle m k l a r → Turns k l a r
+turns {m} first =
+    whole-turns m (omega (arith, mul-zero (side m), zero-mul (side m), zero-mul 0)) (omega (arith, mul-zero (side m), zero-mul (side m)))
+turns {m} second =
+    whole-turns m (omega (arith, mul-zero (side m), zero-mul (side m), zero-mul 0)) (omega (arith, mul-zero (side m), zero-mul (side m)))
+turns (firstHalf {k = k} {l = l} {a = a} {r = r} t) = half-turns k (turns t) (first-half l a r (middle l r) (halfway (cut t)))
+turns (secondHalf {k = k} {l = l} {a = a} {r = r} t) = half-turns k (turns t) (second-half l a r (middle l r) (halfway (cut t)))
