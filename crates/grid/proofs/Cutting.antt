@@ -8,7 +8,8 @@ use Prim.Native.Nat.{ℕ, zero, suc, _+_, _*_, _^_, _/_, _%_, _<_}
 use native.Mathlib.Nat.{mul-add, mul-left-comm, mul-zero, pow-suc}
 use native.Mathlib.Omega.{arith}
 use Rattle.grid.specs.Grid.{side, at, Inside, middle}
-use Rattle.grid.specs.Points.{units, isCorner, kind, spacing, both, ends, endsBy, pair, dependsOn, rank, Back}
+use Rattle.grid.specs.Points.{units, isCorner, kind, spacing, both, ends, endsBy, pair, dependsOn, rank}
+use Rattle.grid.specs.Inner.{Back}
 use Rattle.grid.specs.Hierarchy.{Triangle, first, second, firstHalf, secondHalf}
 use Rattle.grid.specs.declared.points.Point.{Point}
 use Rattle.grid.specs.declared.points.Kind.{Kind}

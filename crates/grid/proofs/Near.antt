@@ -8,7 +8,8 @@ use lib.Seq.{take-append-seam}
 use lib.Dec.{leb}
 use mathlib.Core.Bool.{Bool, true, false, cond}
 use borrow.Author.Tests.{le-leb, lt-leb}
-use Rattle.grid.specs.Points.{near, each, listed, packed, Listed}
+use Rattle.grid.specs.Points.{near, each}
+use Rattle.grid.specs.Inner.{listed, packed, Listed}
 use Rattle.grid.specs.Grid.{at}
 use Rattle.grid.specs.declared.points.Point.{Point}
 use Rattle.grid.specs.declared.points.Few.{Few}

@@ -6,7 +6,8 @@ use native.Mathlib.Nat.{mul-suc, mul-le-mul-left, mul-one}
 use native.Mathlib.Omega.{arith}
 use lib.Pow.{pow-mono}
 use Rattle.grid.specs.Grid.{side, Inside}
-use Rattle.grid.specs.Points.{level, spacing, units, isCorner, kind, Back}
+use Rattle.grid.specs.Points.{level, spacing, units, isCorner, kind}
+use Rattle.grid.specs.Inner.{Back}
 use Rattle.grid.specs.declared.points.Point.{Point}
 use Rattle.grid.specs.declared.points.Kind.{Kind}
 use Rattle.grid.specs.declared.points.Kind.the-variants.{Corner, EastWest, NorthSouth, Rising, Falling}

@@ -4,7 +4,8 @@ use mathlib.Core.List.{List}
 use Prim.Native.Nat.{ℕ, _≤_}
 use native.Mathlib.Omega.{arith}
 use Rattle.grid.specs.Grid.{side, Sound, Inside, widest}
-use Rattle.grid.specs.Points.{site, kind, spacing, Back}
+use Rattle.grid.specs.Points.{site, kind, spacing}
+use Rattle.grid.specs.Inner.{Back}
 use Rattle.grid.specs.declared.Grid.{Grid}
 use Rattle.grid.specs.declared.points.Point.{Point}
 use Rattle.grid.specs.declared.points.Site.{Site}

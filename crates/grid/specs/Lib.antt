@@ -6,3 +6,4 @@ pub mod Points
 pub mod Hierarchy
 pub mod Turn
 pub mod Rule
+pub mod Inner

@@ -1,14 +1,11 @@
 -- Points, ends and dependencies. Document 01, the section of that name (document 001, section 2.1). Definitions only.
 use mathlib.Core.Bool.{Bool, true, false, cond, _&&_, _||_}
-use mathlib.Core.Path.{_≡_}
 use mathlib.Core.List.{List, [], _∷_, _++_}
-use Prim.Native.Nat.{ℕ, zero, suc, _+_, _-_, _*_, _^_, _/_, _%_, _≤_}
+use Prim.Native.Nat.{ℕ, zero, suc, _+_, _-_, _*_, _^_, _/_, _%_}
 use lib.Dec.{eqb, leb}
-use lib.ListN.{take, length, replicate}
 use Rattle.grid.specs.Grid.{side, at}
 use Rattle.grid.specs.declared.points.Point.{Point}
 use Rattle.grid.specs.declared.points.Pair.{Pair}
-use Rattle.grid.specs.declared.points.Few.{Few}
 use Rattle.grid.specs.declared.points.Units.{Units}
 use Rattle.grid.specs.declared.points.Site.{Site}
 use Rattle.grid.specs.declared.points.Kind.{Kind}
@@ -88,14 +85,6 @@ endsBy Falling s x y = diagonal false s x y
 unfoldable pub ends : ℕ → Point → Pair
 ends m p = endsBy (kind m p) (spacing m p) (p .x) (p .y)
 
--- a function that goes by the kind may ask that the line it names reaches s back, so that no difference falls below zero
-abbrev pub Back : Kind → ℕ → ℕ → ℕ → Type 0
-Back Corner s x y = Unit {0}
-Back EastWest s x y = s ≤ x
-Back NorthSouth s x y = s ≤ y
-Back Rising s x y = (s ≤ x) × (s ≤ y)
-Back Falling s x y = (s ≤ x) × (s ≤ y)
-
 -- for c from 0 to n, the numbers s below and s above c that lie from 0 to n
 abbrev pub near : ℕ → ℕ → ℕ → List ℕ
 near n s c = cond (leb s c) ((c - s) ∷ []) [] ++ cond (leb (c + s) n) ((c + s) ∷ []) []
@@ -147,18 +136,6 @@ dependentsBy Falling n s x y = beside s x y
 
 unfoldable pub dependents : ℕ → Point → List Point
 dependents m p = dependentsBy (kind m p) (side m) (spacing m p) (p .x) (p .y)
-
--- how a value of the code holds at most four points: their number, the points, and (0, 0) in the places left over
-abbrev pub packed : List Point → Few
-packed ps = record { count = length ps; points = ps ++ replicate (4 - length ps) (at 0 0) }
-
--- the points that it holds
-abbrev pub listed : Few → List Point
-listed f = take (f .count) (f .points)
-
--- a value of the code that holds just these points
-pub record Listed (f : Few) (ps : List Point) : Type 0 where
-  pub is : f ≡ packed ps
 
 -- Rank: an edge point of spacing 2^j has rank 2j, a centre point 2j + 1. What a point depends on has the next rank. By the
 -- same formula grid corners have rank 2m or 2m + 1, above all others.

@@ -64,7 +64,7 @@ impl Grid {
 
     // Counted from the void mark, so that sums and means need no signs.
     pub fn raised(h: i16) -> u32
-        ensures { λ r. ⌜ (r ≡ raise h) ⌝ }
+        ensures { λ r. ⌜ r ≡ raise h ⌝ }
     {
         ((h as i32) - (Grid::VOID as i32)) as u32
     }

@@ -1,10 +1,11 @@
 // Points, ends and dependencies.
 use super::Grid;
 ghost use mathlib.Core.Path.{_≡_};
-ghost use Prim.Native.Nat.{ℕ, _+_, _*_, _≤_, _<_};
+ghost use Prim.Native.Nat.{_≤_, _<_};
 ghost use mathlib.Core.List.{_++_, _∷_, []};
 ghost use Rattle.grid.specs.Grid.{Sound, Inside, widest, at};
-ghost use Rattle.grid.specs.Points.{units, outermost, isCorner, site, pair, diagonal, both, endsBy, ends, Back, near, laid, inLine, crossing, crossed, beside, dependsBy, dependsOn, dependentsBy, dependents, listed, Listed};
+ghost use Rattle.grid.specs.Points.{units, outermost, isCorner, site, pair, diagonal, both, endsBy, ends, near, laid, inLine, crossing, crossed, beside, dependsBy, dependsOn, dependentsBy, dependents};
+ghost use Rattle.grid.specs.Inner.{Back, listed, Listed};
 
 // x cells east and y cells north of the south-west corner.
 pub struct Point {

@@ -15,7 +15,8 @@ use Rattle.grid.specs.Points.{isCorner, ends}
 use Rattle.grid.specs.declared.points.Point.{Point}
 use Rattle.grid.proofs.Spaced.{corner-inside}
 use Rattle.grid.proofs.Places.{place-below, point-place, point-inside}
-use Rattle.survey.specs.Filled.{floorMean, sample, heightBy, heightAt, Partly, Cornered, Found}
+use Rattle.survey.specs.Filled.{floorMean, sample, heightBy, heightAt, Cornered}
+use Rattle.survey.specs.Inner.{Partly, Found}
 use Rattle.survey.proofs.Filling.{depth, ends-up, height-by, height-surveyed, height-void}
 
 -- what a point's sample may be in a partly filled list

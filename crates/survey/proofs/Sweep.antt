@@ -13,7 +13,8 @@ use Rattle.grid.specs.Grid.{void, samples, point, Inside}
 use Rattle.grid.specs.declared.points.Point.{Point}
 use Rattle.grid.proofs.Places.{place-point, point-inside}
 use Rattle.grid.proofs.OnGrid.{is-onGrid}
-use Rattle.survey.specs.Filled.{sample, heightAt, filled, Partly, Found}
+use Rattle.survey.specs.Filled.{sample, heightAt, filled}
+use Rattle.survey.specs.Inner.{Partly, Found}
 use Rattle.survey.proofs.Partial.{partly-same, partly-none, partly-then}
 
 pub record Swept (m : ℕ) (survey heights : List ℤ) (i : ℕ) : Type 0 where

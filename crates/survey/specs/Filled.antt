@@ -3,11 +3,10 @@
 use mathlib.Core.Path.{_≡_}
 use mathlib.Core.Bool.{Bool, true, false, cond}
 use mathlib.Core.List.{List}
-use mathlib.Core.Logic.{_⊎_}
-use Prim.Native.Nat.{ℕ, zero, suc, _/_, _<_}
-use lib.ListN.{getD, length}
+use Prim.Native.Nat.{ℕ, zero, suc, _/_}
+use lib.ListN.{getD}
 use lib.IntN.{ℤ, pos, negsuc, _+ℤ_}
-use Rattle.grid.specs.Grid.{void, isVoid, samples, place, point, onGrid}
+use Rattle.grid.specs.Grid.{void, isVoid, place, onGrid}
 use Rattle.grid.specs.Points.{isCorner, ends}
 use Rattle.grid.specs.declared.points.Point.{Point}
 
@@ -44,15 +43,3 @@ filled m survey = onGrid m (heightAt m survey)
 -- no grid corner is void
 abbrev pub Cornered : ℕ → List ℤ → Type 0
 Cornered m survey = (p : Point) → isCorner m p ≡ true → isVoid (sample m survey p) ≡ false
-
--- partly filled: each entry is as it was or is its point's height
-pub record Partly (m : ℕ) (survey heights : List ℤ) : Type 0 where
-  pub long : length heights ≡ length survey
-  pub each : (i : ℕ) → i < samples m →
-      (getD heights i void ≡ getD survey i void) ⊎ (getD heights i void ≡ heightAt m survey (point m i))
-
--- what finding the height of p leaves
-pub record Found (m : ℕ) (before after : List ℤ) (p : Point) (h : ℤ) : Type 0 where
-  pub height : h ≡ heightAt m before p
-  pub kept : sample m after p ≡ h
-  pub partly : Partly m before after

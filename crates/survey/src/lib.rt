@@ -5,7 +5,8 @@ ghost use mathlib.Core.Path.{_≡_};
 ghost use lib.ListN.{length};
 ghost use Prim.Native.Nat.{_/_, _<_};
 ghost use Rattle.grid.specs.Grid.{Sound, Inside, samples, point};
-ghost use Rattle.survey.specs.Filled.{floorMean, heightAt, filled, Cornered, Found};
+ghost use Rattle.survey.specs.Filled.{floorMean, heightAt, filled, Cornered};
+ghost use Rattle.survey.specs.Inner.{Found};
 
 // Counted from the void mark no sum is below zero, so plain division is the floor.
 fn halved(sum: u32) -> u32

@@ -16,7 +16,8 @@ use Rattle.grid.proofs.Places.{place-below, samples-small}
 use Rattle.grid.proofs.Level.{level-most}
 use Rattle.grid.proofs.Coarser.{ends-coarser}
 use Rattle.grid.proofs.OnGrid.{any-default}
-use Rattle.survey.specs.Filled.{floorMean, sample, Found, Cornered}
+use Rattle.survey.specs.Filled.{floorMean, sample, Cornered}
+use Rattle.survey.specs.Inner.{Found}
 use Rattle.survey.proofs.Partial.{found-surveyed, found-void, still-cornered}
 use Prim.Native.Nat.{ℕ, _<_}
 use Rattle.survey.proofs.Filling.{depth}

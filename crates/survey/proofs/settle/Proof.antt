@@ -12,7 +12,8 @@ use Rattle.grid.specs.Grid.{void, isVoid, samples, point, Inside}
 use Rattle.grid.specs.declared.points.Point.{Point}
 use Rattle.grid.proofs.Places.{point-inside}
 use Rattle.grid.proofs.OnGrid.{any-default}
-use Rattle.survey.specs.Filled.{sample, heightAt, Found}
+use Rattle.survey.specs.Filled.{sample, heightAt}
+use Rattle.survey.specs.Inner.{Found}
 use Rattle.survey.proofs.Partial.{found-surveyed}
 use Rattle.survey.proofs.Sweep.{sample-place}
 use borrow.Author.Needs.{needs}

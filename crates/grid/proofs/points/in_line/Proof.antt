@@ -5,7 +5,8 @@ use mathlib.Core.List.{List, [], _∷_}
 use Prim.Native.Nat.{ℕ}
 use native.Mathlib.Omega.{arith}
 use borrow.Author.Needs.{needs}
-use Rattle.grid.specs.Points.{laid, listed}
+use Rattle.grid.specs.Points.{laid}
+use Rattle.grid.specs.Inner.{listed}
 use Rattle.grid.specs.declared.points.Point.{Point}
 use Rattle.grid.proofs.Near.{grown-both, grown-below, grown-above, grown-none, itself, adds}
 use Rattle.grid.proofs.points.in_line.Statement.{statement}

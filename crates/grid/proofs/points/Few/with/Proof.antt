@@ -7,7 +7,7 @@ use borrow.Author.Needs.{needs}
 use lib.ListN.{length, set, replicate, length-append}
 use lib.Seq.{set-append-seam}
 use Rattle.grid.specs.Grid.{at}
-use Rattle.grid.specs.Points.{Listed, listed}
+use Rattle.grid.specs.Inner.{Listed, listed}
 use Rattle.grid.specs.declared.points.Few.{Few}
 use Rattle.grid.specs.declared.points.Point.{Point}
 use Rattle.grid.proofs.Near.{counts}
