@@ -17,3 +17,4 @@ pub mod Placed
 pub mod Dependence
 pub mod Cutting
 pub mod Rule
+pub mod Order
