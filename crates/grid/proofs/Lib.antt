@@ -19,3 +19,4 @@ pub mod Cutting
 pub mod Rule
 pub mod Turning
 pub mod Values
+pub mod Order

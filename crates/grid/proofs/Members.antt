@@ -29,7 +29,7 @@ all P {q} (p ∷ qs) h i = by (all P qs (h .1)) (List·Memᴰ·cases-cons i)
     by below (inr k) = below k
 
 -- a member of what f names for the numbers of a list
-each-in : (f : ℕ → List Point) {q : Point} (cs : List ℕ) → List·Memᴰ q (each f cs) → (c : ℕ) × List·Memᴰ c cs × List·Memᴰ q (f c)
+pub each-in : (f : ℕ → List Point) {q : Point} (cs : List ℕ) → List·Memᴰ q (each f cs) → (c : ℕ) × List·Memᴰ c cs × List·Memᴰ q (f c)
 each-in f [] i = absurd (List·Memᴰ·not-nil i)
 each-in f {q} (c ∷ cs) i = by (each-in f cs) (List·Memᴰ·append-cases (f c) i)
   where
