@@ -82,7 +82,7 @@ loop-less : tie.Need-loop-less Inv-loop μ-loop
 loop-less c = omega arith
 
 loop-again : tie.Need-loop-again Inv-loop μ-loop
-loop-again c = step _ _ _ _ (c .before .before .loop-test .taken) (omega arith) (omega arith) (c .before .before .before .loop .inv)
+loop-again c = step _ _ _ _ (omega arith) (omega arith) (omega arith) (c .before .before .before .loop .inv)
 
 returns : tie.Need-returns Inv-loop μ-loop
 unfolding level
