@@ -7,7 +7,7 @@ use mathlib.Core.Logic.{_⊎_, inl, inr, ⊎-elim}
 use Prim.Native.Nat.{ℕ, zero, suc, _+_, _*_, _^_, _/_, _%_, _<_}
 use native.Mathlib.Nat.{mul-add, mul-left-comm, mul-zero, pow-suc}
 use native.Mathlib.Omega.{arith}
-use Rattle.grid.specs.Grid.{side, at, Inside, middle}
+use Rattle.grid.specs.Grid.{side, at, Inside, midpoint}
 use Rattle.grid.specs.Points.{units, isCorner, kind, spacing, both, ends, endsBy, pair, dependsOn, rank}
 use Rattle.grid.specs.Inner.{Back}
 use Rattle.grid.specs.Hierarchy.{Triangle, first, second, firstHalf, secondHalf}
@@ -31,16 +31,16 @@ pub record Corners (m : ℕ) (l a r : Point) : Type 0 where
   pub top : Inside m a
   pub right : Inside m r
 
--- a triangle (l, a, r) with k + 1 cuts left, and the middle of its longest side, where it is cut
+-- a triangle (l, a, r) with k + 1 cuts left, and the midpoint of its longest side, where it is cut
 pub record Cut (m k : ℕ) (l a r : Point) : Type 0 where
   pub corners : Corners m l a r
-  pub east : 2 * middle l r .x ≡ l .x + r .x
-  pub north : 2 * middle l r .y ≡ l .y + r .y
-  pub inside : Inside m (middle l r)
-  pub inner : isCorner m (middle l r) ≡ false
-  pub rank : rank m (middle l r) ≡ k
-  pub ends : (ends m (middle l r) ≡ pair l r) ⊎ (ends m (middle l r) ≡ pair r l)
-  pub apex : List·Memᴰ a (dependsOn m (middle l r))
+  pub east : 2 * midpoint l r .x ≡ l .x + r .x
+  pub north : 2 * midpoint l r .y ≡ l .y + r .y
+  pub inside : Inside m (midpoint l r)
+  pub inner : isCorner m (midpoint l r) ≡ false
+  pub rank : rank m (midpoint l r) ≡ k
+  pub ends : (ends m (midpoint l r) ≡ pair l r) ⊎ (ends m (midpoint l r) ≡ pair r l)
+  pub apex : List·Memᴰ a (dependsOn m (midpoint l r))
 
 -- a point is halfway between its ends
 opposite : (k : Kind) (s x y : ℕ) → Back k s x y → Halfway (at x y) (endsBy k s x y .first) (endsBy k s x y .second)
@@ -73,10 +73,10 @@ end-pair {m} {p} {q} {r} h w i =
     (List·Memᴰ·cases-cons i)
 
 -- halfway between two points in units of s
-middle-times : {s u v u′ v′ a b : ℕ} {p q : Point} → Times s u v p → Times s u′ v′ q → 2 * a ≡ u + u′ → 2 * b ≡ v + v′ →
-    Halfway (middle p q) p q × Times s a b (middle p q)
-unfolding middle
-middle-times {s} {u} {v} {u′} {v′} {a} {b} {p} {q} t w ea eb =
+midpoint-times : {s u v u′ v′ a b : ℕ} {p q : Point} → Times s u v p → Times s u′ v′ q → 2 * a ≡ u + u′ → 2 * b ≡ v + v′ →
+    Halfway (midpoint p q) p q × Times s a b (midpoint p q)
+unfolding midpoint
+midpoint-times {s} {u} {v} {u′} {v′} {a} {b} {p} {q} t w ea eb =
     let ex : p .x + q .x ≡ 2 * (s * a) = twofold a u u′ (t .east) (w .east) ea in
     let ey : p .y + q .y ≡ 2 * (s * b) = twofold b v v′ (t .north) (w .north) eb in
     (omega arith, omega arith)
@@ -122,10 +122,10 @@ fit-swap f = record {
 
 fit-cut : {m k : ℕ} {l a r : Point} → Fit m k l a r → Cut m k l a r
 fit-cut {m} {k} {l} {a} {r} f =
-    let t = middle-times (f .left .times) (f .right .times) (f .east) (f .north) in
+    let t = midpoint-times (f .left .times) (f .right .times) (f .east) (f .north) in
     let w = t .0 in
-    let h : Inside m (middle l r) = halfway-inside w (f .corners .left) (f .corners .right) in
-    let p : Placed m (f .j) (f .c) (f .d) (middle l r) = record { below = f .below; times = t .1; odd = f .odd; inside = h } in
+    let h : Inside m (midpoint l r) = halfway-inside w (f .corners .left) (f .corners .right) in
+    let p : Placed m (f .j) (f .c) (f .d) (midpoint l r) = record { below = f .below; times = t .1; odd = f .odd; inside = h } in
     record {
       corners = f .corners;
       east = w .east;
@@ -212,10 +212,10 @@ module _ {m k : ℕ} {l c a : Point} (h : Inside m l) (h′ : Inside m a) where
       }
 
 -- half of a triangle: one of the two ends of its cut, the cut and its apex
-half-cut : {m i k : ℕ} {l a r q : Point} → Cut m i l a r → i ≡ suc k → Inside m q → List·Memᴰ q (both (ends m (middle l r))) →
-    Fit m k q (middle l r) a
+half-cut : {m i k : ℕ} {l a r q : Point} → Cut m i l a r → i ≡ suc k → Inside m q → List·Memᴰ q (both (ends m (midpoint l r))) →
+    Fit m k q (midpoint l r) a
 half-cut {m} {l = l} {r = r} t e h is =
-    let p = placed m (middle l r) (t .inside) (t .inner) in
+    let p = placed m (midpoint l r) (t .inside) (t .inner) in
     half h (t .corners .top) _ p (t .rank ∙ e) (ends-are p .0 is) (depends-are p .0 (t .apex) .1) (form _ _ (p .odd))
 
 none : (j : ℕ) → 0 ≡ 2 ^ j * 0
@@ -249,7 +249,7 @@ north-west (suc j) e = whole j {u = 0} {v = 2} e (omega arith) (record { east = 
 
 -- both ends of a cut are ends
 cut-ends : {m k : ℕ} {l a r : Point} → Cut m k l a r →
-    List·Memᴰ l (both (ends m (middle l r))) × List·Memᴰ r (both (ends m (middle l r)))
+    List·Memᴰ l (both (ends m (midpoint l r))) × List·Memᴰ r (both (ends m (midpoint l r)))
 cut-ends t =
     ⊎-elim
     (λ e. rw e (List·Memᴰ·head refl, List·Memᴰ·tail (List·Memᴰ·head refl)))
@@ -287,8 +287,8 @@ stage-by p r (centre oa ob) =
     let z = rank-centre f oa ob in
     record { atCentre = λ e. rw (f .across, f .up) (oa, ob); atEdge = λ e. absurd (omega arith) }
 
-pub stage : {m k : ℕ} {l a r : Point} → Triangle m (suc k) l a r → Stage m k (middle l r)
+pub stage : {m k : ℕ} {l a r : Point} → Triangle m (suc k) l a r → Stage m k (midpoint l r)
 stage {m} {k} {l} {a} {r} t =
     let c = cut t in
-    let p = placed m (middle l r) (c .inside) (c .inner) in
+    let p = placed m (midpoint l r) (c .inside) (c .inner) in
     stage-by p (c .rank) (form _ _ (p .odd))

@@ -12,6 +12,7 @@ use native.Mathlib.Omega.{arith}
 use lib.Dec.{leb}
 use borrow.Author.Tests.{le-leb, leb-true}
 use Rattle.grid.specs.Points.{near, each, laid, inLine, crossing}
+use Rattle.grid.specs.Rule.{Away}
 use Rattle.grid.specs.declared.points.Point.{Point}
 use Rattle.grid.proofs.Sums.{choose, Close}
 
@@ -109,6 +110,34 @@ module _ {n s b y : ℕ} (g : Axis n s b y) where
         (r .0, near-in (r .1), List·Memᴰ·eq-of-singleton (r .2)),
     λ r. each-of (λ c. laid turned c x ∷ []) (near n s y) (near-of (r .1)) (List·Memᴰ·head (r .2)),
   )
+
+-- a member of such a line, in plain coordinates
+pub near-is : (n s y c : ℕ) → y ≤ n → List·Memᴰ c (near n s y) ↔ (Away s y c × (c ≤ n))
+near-is n s y c l = (
+  λ i.
+      ⊎-elim
+      (λ k. let r = cond-in (leb s y) (y - s) k in let d = leb-true s y (r .0) in (inl (omega arith), omega arith))
+      (λ k. let r = cond-in (leb (y + s) n) (y + s) k in let d = leb-true (y + s) n (r .0) in (inr (r .1), omega arith))
+      (List·Memᴰ·append-cases (cond (leb s y) ((y - s) ∷ []) []) i),
+  λ r. of (r .0) (r .1),
+)
+  where
+    of : Away s y c → c ≤ n → List·Memᴰ c (near n s y)
+    of (inl e) k =
+        let f : c ≡ y - s = omega arith in
+        Memᴰ·cast f (rw (le-leb s y (omega arith)) (List·Memᴰ·head refl))
+    of (inr e) k =
+        let d : y + s ≤ n = omega arith in
+        Memᴰ·append-right (cond (leb s y) ((y - s) ∷ []) []) (Memᴰ·cast e (rw (le-leb (y + s) n d) (List·Memᴰ·head refl)))
+
+pub line-near : (n s y x : ℕ) (turned : Bool) {q : Point} → y ≤ n →
+    List·Memᴰ q (inLine turned x (near n s y)) ↔ ((c : ℕ) × (Away s y c × (c ≤ n)) × (q ≡ laid turned c x))
+line-near n s y x turned l = (
+  λ i.
+      let r = each-in (λ c. laid turned c x ∷ []) (near n s y) i in
+      (r .0, near-is n s y (r .0) l .0 (r .1), List·Memᴰ·eq-of-singleton (r .2)),
+  λ r. each-of (λ c. laid turned c x ∷ []) (near n s y) (near-is n s y (r .0) l .1 (r .1)) (List·Memᴰ·head (r .2)),
+)
 
 -- a member crosswise: near both ways
 pub crossing-is : {n s a b x y : ℕ} {q : Point} → Axis n s a x → Axis n s b y →

@@ -6,7 +6,7 @@ use native.Mathlib.Nat.{mul-add-div-right, mul-add-mod-self-right, div-eq-of-lt,
 use native.Mathlib.Nat.{mul-le-mul, mul-le-mul-right, one-mul, mul-assoc, add-mul, add-zero}
 use native.Mathlib.Omega.{arith}
 use lib.Pow.{pow-mono, pow-pos}
-use Rattle.grid.specs.Grid.{side, samples, at, place, point, middle, midplace, Inside, largest, widest, gridOf, Sound}
+use Rattle.grid.specs.Grid.{side, samples, at, place, point, midpoint, midplace, Inside, largest, widest, gridOf, Sound}
 use Rattle.grid.specs.declared.Grid.{Grid}
 use Rattle.grid.specs.declared.points.Point.{Point}
 

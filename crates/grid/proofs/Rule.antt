@@ -1,23 +1,26 @@
--- The spacing is the largest power of two dividing both coordinates, and a centre's ends are the two of the four points around
--- it that have, in units of 2s, both coordinates odd or both even; it depends on the other two.
+-- The spacing is the largest power of two dividing both coordinates; a centre's ends are the two of the four points around it
+-- that have, in units of 2s, both coordinates odd or both even, and it depends on the other two; an edge point's ends lie s
+-- away along the axis of the odd unit, and what it depends on along the other. A point that is no grid corner is one or other.
 use mathlib.Core.Path.{_≡_, refl, sym, ap, _∙_, subst}
 use mathlib.Core.Bool.{Bool, true, false, not}
 use mathlib.Core.List.{List, [], _∷_, List·Memᴰ, List·Memᴰ·head, List·Memᴰ·tail, List·Memᴰ·cases-cons, List·Memᴰ·eq-of-singleton}
 use mathlib.Core.Logic.{_⊎_, inl, inr, ⊎-elim, _↔_, _≢_}
 use Prim.Native.Nat.{ℕ, suc, _+_, _-_, _*_, _^_, _/_, _%_, _≤_, _<_}
-use native.Mathlib.Nat.{mul-assoc, mul-comm, mul-add, mul-one, mul-div-cancel-left, mod-mod-of-dvd, dvd-mul-right, zero-mod}
+use native.Mathlib.Nat.{mul-assoc, mul-comm, mul-add, mul-one, mul-div-cancel-left, mod-mod-of-dvd, dvd-mul-right, zero-mod, pow-suc}
 use native.Mathlib.Decide.{ℕ-discrete, decLe}
 use native.Mathlib.Omega.{arith}
 use lib.Pow.{pow-mono, pow-add}
 use Rattle.grid.specs.Grid.{side, at, Inside}
-use Rattle.grid.specs.Points.{level, spacing, units, isCorner, kind, ends, endsBy, diagonal, both, dependsOn, dependsBy}
-use Rattle.grid.specs.Rule.{LargestPower, Around, BothOdd, BothEven, Centre}
+use Rattle.grid.specs.Points.{level, spacing, units, isCorner, kind, ends, endsBy, pair, diagonal, both, near, laid, inLine, dependsOn, dependsBy}
+use Rattle.grid.specs.Rule.{LargestPower, Away, Around, BothOdd, BothEven, Centre, along, AwayAlong, Edge}
 use Rattle.grid.specs.declared.points.Point.{Point}
 use Rattle.grid.proofs.Level.{Divides, level-divides, level-largest}
 use Rattle.grid.proofs.Spaced.{View, view, level-below, east-units, north-units, spacing-positive, before}
 use Rattle.grid.proofs.Parity.{Sort, eastWest, northSouth, rising, falling, sort}
 use Rattle.grid.proofs.Room.{Reached, room}
 use Rattle.grid.proofs.Around.{same-point}
+use Rattle.grid.proofs.Members.{line-near}
+use Rattle.grid.proofs.Units.{Odd, Measured, at-units}
 
 -- 2^k divides x where 2^j does and k is at most j
 divides-less : (k j x : ℕ) → k ≤ j → x % 2 ^ j ≡ 0 → x % 2 ^ k ≡ 0
@@ -214,3 +217,109 @@ centre m p i inner oa ob = by (room m p i) (sort m p i inner)
     by r (falling q a b e) =
         let w = rw q at r in
         rw q (centre-by (spacing m p) (p .x) (p .y) _ _ (east (w .0 .0)) (north (w .1 .0)) false e)
+
+-- a point that is no grid corner has x/s or y/s odd
+pub some-odd : (m : ℕ) (p : Point) → Inside m p → isCorner m p ≡ false → Odd (units m p .across) (units m p .up)
+some-odd m p i inner = view m p i inner .odd
+
+-- a point by its coordinates along an axis and beside it
+along-laid : (t : Bool) (a b : ℕ) → (along t (laid t a b) ≡ a) × (along (not t) (laid t a b) ≡ b)
+along-laid false a b = (refl, refl)
+along-laid true a b = (refl, refl)
+
+is-laid : (t : Bool) {q : Point} {a b : ℕ} → along t q ≡ a → along (not t) q ≡ b → q ≡ laid t a b
+is-laid false e f = same-point e f
+is-laid true e f = same-point f e
+
+module _ (m s : ℕ) (p : Point) (h : Inside m p) (t : Bool) where
+  inside-along : (u : Bool) (q : Point) → Inside m q → along u q ≤ side m
+  inside-along false q i = i .east
+  inside-along true q i = i .north
+
+  inside-by : (u : Bool) (q : Point) → along u q ≤ side m → along (not u) q ≤ side m → Inside m q
+  inside-by false q e n = record { east = e; north = n }
+  inside-by true q n e = record { east = e; north = n }
+
+  -- the points of an axis through p
+  on-axis : (u : Bool) {c : ℕ} {q : Point} → Away s (along u p) c → q ≡ laid u c (along (not u) p) → AwayAlong u s p q
+  on-axis u {c} a e =
+      let w = along-laid u c (along (not u) p) in
+      rw e (record { away = rw (w .0) a; level = w .1 })
+
+  edge-ends : s ≤ along t p → (q : Point) →
+      List·Memᴰ q (both (pair (laid t (along t p - s) (along (not t) p)) (laid t (along t p + s) (along (not t) p)))) ↔ AwayAlong t s p q
+  edge-ends l q = (
+    λ i.
+        ⊎-elim (λ e. on-axis t (inl (omega arith)) e) (λ r. on-axis t (inr refl) (List·Memᴰ·eq-of-singleton r)) (List·Memᴰ·cases-cons i),
+    λ a. of a (a .away),
+  )
+    where
+      of : AwayAlong t s p q → Away s (along t p) (along t q) →
+          List·Memᴰ q (both (pair (laid t (along t p - s) (along (not t) p)) (laid t (along t p + s) (along (not t) p))))
+      of a (inl e) =
+          let f : along t q ≡ along t p - s = omega arith in
+          List·Memᴰ·head (is-laid t f (a .level))
+      of a (inr e) = List·Memᴰ·tail (List·Memᴰ·head (is-laid t e (a .level)))
+
+  edge-others : (q : Point) →
+      List·Memᴰ q (inLine t (along (not t) p) (near (side m) s (along t p))) ↔ (AwayAlong t s p q × Inside m q)
+  edge-others q =
+      let n = line-near (side m) s (along t p) (along (not t) p) t (inside-along t p h) in (
+        λ i.
+            let r = n .0 i in
+            let w = along-laid t (r .0) (along (not t) p) in
+            (on-axis t (r .1 .0) (r .2), inside-by t q (rw (r .2, w .0) (r .1 .1)) (rw (r .2, w .1) (inside-along (not t) p h))),
+        λ r. n .1 (along t q, (r .0 .away, inside-along t q (r .1)), is-laid t refl (r .0 .level)),
+      )
+
+-- an edge point: of x/s and y/s the one along an axis is odd, the other even
+pub edge : (m : ℕ) (p : Point) → Inside m p → isCorner m p ≡ false → (t : Bool) →
+    let u = at (units m p .across) (units m p .up) in
+    along t u % 2 ≡ 1 → along (not t) u % 2 ≡ 0 → Edge m t (spacing m p) p (ends m p) (dependsOn m p)
+unfolding ends dependsOn
+edge m p i inner t o e = by t o e (room m p i) (sort m p i inner)
+  where
+    by : (t : Bool) → along t (at (units m p .across) (units m p .up)) % 2 ≡ 1 → along (not t) (at (units m p .across) (units m p .up)) % 2 ≡ 0 →
+        Reached (kind m p) (side m) (spacing m p) (p .x) (p .y) → Sort m p →
+        Edge m t (spacing m p) p (endsBy (kind m p) (spacing m p) (p .x) (p .y)) (dependsBy (kind m p) (side m) (spacing m p) (p .x) (p .y))
+    by false o e r (eastWest q a b) =
+        let w = rw q at r in rw q (record { ends = edge-ends m (spacing m p) p i false (w .0); others = edge-others m (spacing m p) p i true })
+    by false o e r (northSouth q a b) = absurd (omega arith)
+    by false o e r (rising q a b f) = absurd (omega arith)
+    by false o e r (falling q a b f) = absurd (omega arith)
+    by true o e r (northSouth q a b) =
+        let w = rw q at r in rw q (record { ends = edge-ends m (spacing m p) p i true (w .0); others = edge-others m (spacing m p) p i false })
+    by true o e r (eastWest q a b) = absurd (omega arith)
+    by true o e r (rising q a b f) = absurd (omega arith)
+    by true o e r (falling q a b f) = absurd (omega arith)
+
+-- for the grid's centre the ends are (0, 0) and (N, N)
+pub grid-centre : (j : ℕ) → ends (suc j) (at (side j) (side j)) ≡ pair (at 0 0) (at (side (suc j)) (side (suc j)))
+unfolding ends
+grid-centre j = by (sort m p h (f .inner (omega arith)))
+  where
+    m : ℕ
+    m = suc j
+
+    p : Point
+    p = at (side j) (side j)
+
+    two : side m ≡ side j + side j
+    two = let d : side m ≡ side j * 2 = pow-suc 2 j in omega arith
+
+    h : Inside m p
+    h = record { east = omega (arith, two); north = omega (arith, two) }
+
+    f : Measured m p j 1 1
+    f = at-units m j 1 1 (omega arith) (record { east = sym (mul-one (side j)); north = sym (mul-one (side j)) }) (inl refl)
+
+    far : diagonal true (side j) (side j) (side j) ≡ pair (at 0 0) (at (side m) (side m))
+    far =
+        let low : side j - side j ≡ 0 = omega arith in
+        λ i. pair (at (low i) (low i)) (at (sym two i) (sym two i))
+
+    by : Sort m p → endsBy (kind m p) (spacing m p) (side j) (side j) ≡ pair (at 0 0) (at (side m) (side m))
+    by (eastWest q a b) = absurd (omega (arith, f .up))
+    by (northSouth q a b) = absurd (omega (arith, f .across))
+    by (rising q a b e) = rw (q, f .spaced) far
+    by (falling q a b e) = absurd (e (rw (f .across, f .up)))

@@ -5,9 +5,9 @@ use mathlib.Core.Logic.{_⊎_, inl, inr}
 use Prim.Native.Nat.{ℕ, zero, suc, _+_, _*_, _^_, _%_}
 use native.Mathlib.Nat.{pow-suc, mul-assoc, add-mul, mul-add, mul-comm, mul-zero, zero-mul}
 use native.Mathlib.Omega.{arith}
-use lib.Pow.{pow-add}
-use Rattle.grid.specs.Grid.{side, at, middle}
-use Rattle.grid.specs.Turn.{onward, backward}
+use lib.Pow.{pow-add, pow-pos}
+use Rattle.grid.specs.Grid.{side, at, midpoint}
+use Rattle.grid.specs.Turn.{onward, backward, CounterClockwise}
 use Rattle.grid.specs.Hierarchy.{Triangle, first, second, firstHalf, secondHalf}
 use Rattle.grid.specs.declared.points.Point.{Point}
 use Rattle.grid.proofs.Cutting.{Halfway, Cut, cut}
@@ -71,7 +71,7 @@ whole-turns m e f =
     let d : 2 * m ≡ m + m = omega arith in ap (λ (k : ℕ). 2 ^ k) d ∙ pow-add 2 m m in
     record { even = λ z. omega arith; odd = λ z. omega arith }
 
-halfway : {m k : ℕ} {l a r : Point} → Cut m k l a r → Halfway (middle l r) l r
+halfway : {m k : ℕ} {l a r : Point} → Cut m k l a r → Halfway (midpoint l r) l r
 halfway c = record { east = c .east; north = c .north }
 
 pub turns : {m k : ℕ} {l a r : Point} → Triangle m k l a r → Turns k l a r
@@ -79,5 +79,14 @@ turns {m} first =
     whole-turns m (omega (arith, mul-zero (side m), zero-mul (side m), zero-mul 0)) (omega (arith, mul-zero (side m), zero-mul (side m)))
 turns {m} second =
     whole-turns m (omega (arith, mul-zero (side m), zero-mul (side m), zero-mul 0)) (omega (arith, mul-zero (side m), zero-mul (side m)))
-turns (firstHalf {k = k} {l = l} {a = a} {r = r} t) = half-turns k (turns t) (first-half l a r (middle l r) (halfway (cut t)))
-turns (secondHalf {k = k} {l = l} {a = a} {r = r} t) = half-turns k (turns t) (second-half l a r (middle l r) (halfway (cut t)))
+turns (firstHalf {k = k} {l = l} {a = a} {r = r} t) = half-turns k (turns t) (first-half l a r (midpoint l r) (halfway (cut t)))
+turns (secondHalf {k = k} {l = l} {a = a} {r = r} t) = half-turns k (turns t) (second-half l a r (midpoint l r) (halfway (cut t)))
+
+-- as they are written, l, a, r after an even number of cuts and r, a, l after an odd number, all turn counter-clockwise
+-- (2m in all, so the cuts made are even just where the cuts left are)
+pub counter-clockwise : {m k : ℕ} {l a r : Point} → Triangle m k l a r →
+    (k % 2 ≡ 0 → CounterClockwise l a r) × (k % 2 ≡ 1 → CounterClockwise r a l)
+counter-clockwise {k = k} {l = l} {a = a} {r = r} t = (
+  λ e. omega (arith, turns t .even e, pow-pos k),
+  λ o. omega (arith, turns t .odd o, pow-pos k, mul-comm (l .x) (r .y), mul-comm (a .y) (r .x), mul-comm (a .x) (l .y), mul-comm (a .x) (r .y), mul-comm (l .x) (a .y), mul-comm (l .y) (r .x)),
+)

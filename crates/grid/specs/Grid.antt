@@ -24,7 +24,7 @@ abbrev pub isVoid : ℤ → Bool
 isVoid (pos n) = false
 isVoid (negsuc n) = eqb n highest
 
--- a point of a query is given in quarter cells
+-- the quarter-cell factor: a queried point is given in quarter cells
 abbrev pub quarters : ℕ
 quarters = 4
 
@@ -32,7 +32,7 @@ quarters = 4
 abbrev pub largest : ℕ
 largest = 7
 
--- N = 2^m
+-- N = 2^m, the cells along a side of the square
 abbrev pub side : ℕ → ℕ
 side m = 2 ^ m
 
@@ -53,7 +53,7 @@ pub record Sound (g : Grid) : Type 0 where
 abbrev pub samples : ℕ → ℕ
 samples m = (side m + 1) * (side m + 1)
 
--- a point is given in quarter cells, 0 to 4N each way
+-- 4N: a queried point lies from 0 to 4N each way
 abbrev pub inQuarters : ℕ → ℕ
 inQuarters m = quarters * side m
 
@@ -69,7 +69,7 @@ place m p = p .y * (side m + 1) + p .x
 unfoldable pub point : ℕ → ℕ → Point
 point m i = at (i % (side m + 1)) (i / (side m + 1))
 
--- a point of the grid's square
+-- a point of the grid's square, the border included
 pub record Inside (m : ℕ) (p : Point) : Type 0 where
   pub east : p .x ≤ side m
   pub north : p .y ≤ side m
@@ -84,14 +84,14 @@ unfoldable pub onGrid : {A : Type 0} → ℕ → (Point → A) → List A
 onGrid m f = entries (λ i. f (point m i)) 0 (samples m)
 
 -- the midpoint of two points whose coordinates have even sums
-unfoldable pub middle : Point → Point → Point
-middle p q = at ((p .x + q .x) / 2) ((p .y + q .y) / 2)
+unfoldable pub midpoint : Point → Point → Point
+midpoint p q = at ((p .x + q .x) / 2) ((p .y + q .y) / 2)
 
 -- the place of the midpoint of two such points, by their places
 abbrev pub midplace : ℕ → ℕ → ℕ
 midplace i j = (i + j) / 2
 
--- a height counted from the void mark, as sums and means are worked out: void is 0, heights are 1 to 65535
+-- a sample counted from the void mark, as sums and means are worked out: void is 0, heights are 1 to 65535
 abbrev pub raise : ℤ → ℕ
 raise h = natAbs (h -ℤ void)
 

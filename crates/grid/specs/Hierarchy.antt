@@ -1,12 +1,13 @@
 -- The triangles that cutting at every sample passes through. Document 01, "Triangles". Definitions only.
 use Prim.Native.Nat.{ℕ, suc, _*_}
-use Rattle.grid.specs.Grid.{side, at, middle}
+use Rattle.grid.specs.Grid.{side, at, midpoint}
 use Rattle.grid.specs.declared.points.Point.{Point}
 
 -- (l, a, r), apex a and longest side l to r, is a triangle with k cuts left: one of the two that the square starts as, with
--- 2m; or a half, the first or the second, of one with k + 1 cuts left, cut at the midpoint of its longest side
+-- 2m; or a half, the first or the second, of one with k + 1 cuts left, cut at the midpoint of its longest side. (With no cut left
+-- that midpoint is no sample.)
 pub data Triangle (m : ℕ) : ℕ → Point → Point → Point → Type 0 where
   first : Triangle m (2 * m) (at 0 0) (at (side m) 0) (at (side m) (side m))
   second : Triangle m (2 * m) (at (side m) (side m)) (at 0 (side m)) (at 0 0)
-  firstHalf : {k : ℕ} {l a r : Point} → Triangle m (suc k) l a r → Triangle m k l (middle l r) a
-  secondHalf : {k : ℕ} {l a r : Point} → Triangle m (suc k) l a r → Triangle m k a (middle l r) r
+  firstHalf : {k : ℕ} {l a r : Point} → Triangle m (suc k) l a r → Triangle m k l (midpoint l r) a
+  secondHalf : {k : ℕ} {l a r : Point} → Triangle m (suc k) l a r → Triangle m k a (midpoint l r) r

@@ -17,7 +17,7 @@ packed ps = record { count = length ps; points = ps ++ replicate (4 - length ps)
 abbrev pub listed : Few → List Point
 listed f = take (f .count) (f .points)
 
--- a value of the code that holds just these points
+-- a value of the code that holds just these points, in this order
 pub record Listed (f : Few) (ps : List Point) : Type 0 where
   pub is : f ≡ packed ps
 

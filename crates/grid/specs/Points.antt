@@ -1,4 +1,5 @@
--- Points, ends and dependencies. Document 01, the section of that name (document 001, section 2.1). Definitions only.
+-- Points, ends and dependencies. Document 01, the section of that name (document 001, section 2.1). All is said of points of
+-- the square; of others the values mean nothing. Definitions only.
 use mathlib.Core.Bool.{Bool, true, false, cond, _&&_, _||_}
 use mathlib.Core.List.{List, [], _∷_, _++_}
 use Prim.Native.Nat.{ℕ, zero, suc, _+_, _-_, _*_, _^_, _/_, _%_}
@@ -28,12 +29,12 @@ unfoldable pub level : ℕ → ℕ → ℕ → ℕ
 level zero x y = 0
 level (suc j) x y = cond (dividesBoth (2 ^ suc j) x y) (suc j) (level j x y)
 
--- spacing: the largest power of two that divides both x and y. (It is taken up to N, which bounds it at grid corners alone:
--- they are given the spacing N.)
+-- spacing: the largest power of two that divides both x and y. (It is taken up to N, which bounds it at (0, 0) alone, divisible
+-- by all. So grid corners, which the document gives no spacing, have N.)
 unfoldable pub spacing : ℕ → Point → ℕ
 spacing m p = 2 ^ level m (p .x) (p .y)
 
--- a point counted in units of its spacing: x/s and y/s
+-- a point counted in units of its spacing: x/s across, eastward, and y/s up, northward
 unfoldable pub units : ℕ → Point → Units
 units m p = record { spacing = spacing m p; across = p .x / spacing m p; up = p .y / spacing m p }
 
@@ -46,8 +47,8 @@ alike s p = eqb ((p .x / (2 * s)) % 2) ((p .y / (2 * s)) % 2)
 
 -- Centre point: x/s and y/s both odd. Of the four points (x±s, y±s), counted in units of 2s, one has both odd and one has
 -- both even: they are opposite, so they are (x-s, y-s) and (x+s, y+s), Rising, or else the other two, Falling.
--- Edge point: exactly one of x/s and y/s is odd, and the ends lie along that axis. (Grid corners are taken out first; of
--- the rest none has both even.)
+-- Edge point: exactly one of x/s and y/s is odd, and the ends lie along that axis, EastWest or NorthSouth. (Grid corners are
+-- taken out first; of the rest none has both even.) Asked in turn: is x/s odd, is y/s odd, is (x-s, y-s) alike.
 abbrev pub kindBy : Bool → Bool → Bool → Kind
 kindBy true true rising = cond rising Rising Falling
 kindBy true false rising = EastWest
@@ -59,6 +60,7 @@ kind m p =
     (kindBy (odd (units m p .across)) (odd (units m p .up))
     (alike (spacing m p) (at (p .x - spacing m p) (p .y - spacing m p))))
 
+-- what a point is, and how far away its ends lie
 unfoldable pub site : ℕ → Point → Site
 site m p = record { kind = kind m p; spacing = spacing m p }
 
@@ -70,6 +72,7 @@ abbrev pub diagonal : Bool → ℕ → ℕ → ℕ → Pair
 diagonal true s x y = pair (at (x - s) (y - s)) (at (x + s) (y + s))
 diagonal false s x y = pair (at (x + s) (y - s)) (at (x - s) (y + s))
 
+-- the two points of a pair
 abbrev pub both : Pair → List Point
 both e = e .first ∷ e .second ∷ []
 
@@ -99,6 +102,7 @@ abbrev pub laid : Bool → ℕ → ℕ → Point
 laid false a b = at a b
 laid true a b = at b a
 
+-- the points along a line at each of the numbers, b beside it
 abbrev pub inLine : Bool → ℕ → List ℕ → List Point
 inLine turned b cs = each (λ a. laid turned a b ∷ []) cs
 
@@ -114,10 +118,11 @@ dependsBy Falling n s x y = both (diagonal true s x y)
 unfoldable pub dependsOn : ℕ → Point → List Point
 dependsOn m p = dependsBy (kind m p) (side m) (spacing m p) (p .x) (p .y)
 
--- the dependents of an edge point: those half its spacing away both ways, inside the square; none where s is 1
+-- the points h away both ways, those inside the square
 abbrev pub crossing : ℕ → ℕ → ℕ → ℕ → List Point
 crossing n h x y = each (λ b. inLine false b (near n h x)) (near n h y)
 
+-- the dependents of an edge point: those half its spacing away both ways; none where s is 1
 abbrev pub crossed : ℕ → ℕ → ℕ → ℕ → List Point
 crossed n s x y = cond (eqb s 1) [] (crossing n (s / 2) x y)
 
@@ -125,8 +130,8 @@ crossed n s x y = cond (eqb s 1) [] (crossing n (s / 2) x y)
 abbrev pub beside : ℕ → ℕ → ℕ → List Point
 beside s x y = at x (y - s) ∷ at (x - s) y ∷ at (x + s) y ∷ at x (y + s) ∷ []
 
--- the dependents of a point, those that depend on it, by rising place. Of grid corners, always kept, none are listed (the
--- grid's centre depends on two of them).
+-- the dependents of a point, those that depend on it, by rising place. Of grid corners, always kept, none are listed (where
+-- m is not 0, the grid's centre depends on two of them).
 abbrev pub dependentsBy : Kind → ℕ → ℕ → ℕ → ℕ → List Point
 dependentsBy Corner n s x y = []
 dependentsBy EastWest n s x y = crossed n s x y
@@ -137,12 +142,13 @@ dependentsBy Falling n s x y = beside s x y
 unfoldable pub dependents : ℕ → Point → List Point
 dependents m p = dependentsBy (kind m p) (side m) (spacing m p) (p .x) (p .y)
 
--- Rank: an edge point of spacing 2^j has rank 2j, a centre point 2j + 1. What a point depends on has the next rank. By the
--- same formula grid corners have rank 2m or 2m + 1, above all others.
+-- 1 where both are odd, a centre, and 0 at an edge point
 abbrev pub centreBit : Bool → Bool → ℕ
 centreBit true true = 1
 centreBit true false = 0
 centreBit false oddUp = 0
 
+-- Rank: an edge point of spacing 2^j has rank 2j, a centre point 2j + 1. What a point depends on has the next rank. By the
+-- same formula grid corners have rank 2m or 2m + 1, above all others.
 unfoldable pub rank : ℕ → Point → ℕ
 rank m p = 2 * level m (p .x) (p .y) + centreBit (odd (units m p .across)) (odd (units m p .up))

@@ -42,7 +42,7 @@ noRoom = 8
 abbrev pub inputForm : ℕ
 inputForm = 9
 
--- all of them, by number
+-- each at its own number; at 0, which document 01 leaves free, no refusal
 abbrev pub numbers : List ℕ
 numbers =
     accepted ∷ sizeAbove ∷ wrongLength ∷ voidCorner ∷ toleranceAbove ∷ pointBeyond ∷ badMark ∷ notClosed ∷ noRoom ∷ inputForm ∷ []

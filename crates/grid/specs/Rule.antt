@@ -1,9 +1,11 @@
--- Document 01's sentences about the spacing and about centre points, as records: what the definitions of `Points` are proved
--- to mean. (For edge points those definitions are the sentences already.) Definitions only.
+-- Document 01's sentences about the spacing, about centre points and about edge points, as records: what the definitions of
+-- `Points` are proved to mean. Definitions only.
 use mathlib.Core.Path.{_≡_}
+use mathlib.Core.Bool.{Bool, true, false, not}
 use mathlib.Core.List.{List, List·Memᴰ}
 use mathlib.Core.Logic.{_⊎_, _↔_}
 use Prim.Native.Nat.{ℕ, _+_, _*_, _^_, _/_, _%_, _≤_}
+use Rattle.grid.specs.Grid.{Inside}
 use Rattle.grid.specs.Points.{both}
 use Rattle.grid.specs.declared.points.Point.{Point}
 use Rattle.grid.specs.declared.points.Pair.{Pair}
@@ -16,10 +18,14 @@ pub record LargestPower (x y s : ℕ) : Type 0 where
   pub north : y % s ≡ 0
   pub largest : (k : ℕ) → x % 2 ^ k ≡ 0 → y % 2 ^ k ≡ 0 → 2 ^ k ≤ s
 
+-- c is d - s or d + s
+abbrev pub Away : ℕ → ℕ → ℕ → Type 0
+Away s d c = (c + s ≡ d) ⊎ (c ≡ d + s)
+
 -- q is one of the four points (x±s, y±s)
 pub record Around (s : ℕ) (p q : Point) : Type 0 where
-  pub east : (q .x + s ≡ p .x) ⊎ (q .x ≡ p .x + s)
-  pub north : (q .y + s ≡ p .y) ⊎ (q .y ≡ p .y + s)
+  pub east : Away s (p .x) (q .x)
+  pub north : Away s (p .y) (q .y)
 
 -- the coordinates of q, counted in units of 2s, are both odd; both even
 abbrev pub BothOdd : ℕ → Point → Type 0
@@ -36,3 +42,19 @@ pub record Centre (s : ℕ) (p : Point) (e : Pair) (on : List Point) : Type 0 wh
   pub ends : (BothOdd s (e .first) × BothEven s (e .second)) ⊎ (BothEven s (e .first) × BothOdd s (e .second))
   pub only : (q : Point) → Around s p q → BothOdd s q ⊎ BothEven s q → List·Memᴰ q (both e)
   pub others : (q : Point) → List·Memᴰ q on ↔ (Around s p q × ¬ (List·Memᴰ q (both e)))
+
+-- of a point, the coordinate along the east-west axis; turned, along the north-south axis
+abbrev pub along : Bool → Point → ℕ
+along false p = p .x
+along true p = p .y
+
+-- q is s away from p along an axis
+pub record AwayAlong (turned : Bool) (s : ℕ) (p q : Point) : Type 0 where
+  pub away : Away s (along turned p) (along turned q)
+  pub level : along (not turned) q ≡ along (not turned) p
+
+-- the ends of an edge point are the points s away along the axis with the odd one; it depends on the points s away along the
+-- other axis, those inside the square
+pub record Edge (m : ℕ) (turned : Bool) (s : ℕ) (p : Point) (e : Pair) (on : List Point) : Type 0 where
+  pub ends : (q : Point) → List·Memᴰ q (both e) ↔ AwayAlong turned s p q
+  pub others : (q : Point) → List·Memᴰ q on ↔ (AwayAlong (not turned) s p q × Inside m q)

@@ -1,12 +1,14 @@
--- Which way three points turn: twice the signed area of their triangle, counter-clockwise positive, as two whole numbers of
--- which it is the difference. Definitions only.
-use Prim.Native.Nat.{ℕ, _+_, _*_}
+-- Which way three points turn. Document 01, "Triangles": all are written so that they turn counter-clockwise. Definitions only.
+use Prim.Native.Nat.{ℕ, _+_, _*_, _<_}
 use Rattle.grid.specs.declared.points.Point.{Point}
 
--- for p, q, s: q.x·s.y + p.x·q.y + p.y·s.x
+-- twice the signed area of (p, q, w), counter-clockwise positive, is the first of these whole numbers less the second
 abbrev pub onward : Point → Point → Point → ℕ
-onward p q s = q .x * s .y + p .x * q .y + p .y * s .x
+onward p q w = q .x * w .y + p .x * q .y + p .y * w .x
 
--- less q.x·p.y + p.x·s.y + q.y·s.x
 abbrev pub backward : Point → Point → Point → ℕ
-backward p q s = q .x * p .y + p .x * s .y + q .y * s .x
+backward p q w = q .x * p .y + p .x * w .y + q .y * w .x
+
+-- from p by q to w the turn is counter-clockwise: that area is above zero
+abbrev pub CounterClockwise : Point → Point → Point → Type 0
+CounterClockwise p q w = backward p q w < onward p q w

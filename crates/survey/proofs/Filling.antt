@@ -15,7 +15,7 @@ use Rattle.grid.specs.declared.points.Pair.{Pair}
 use Rattle.grid.proofs.Spaced.{level-below, corner-level}
 use Rattle.grid.proofs.Parity.{kind-corner}
 use Rattle.grid.proofs.Coarser.{ends-coarser}
-use Rattle.survey.specs.Filled.{floorMean, sample, heightBy, heightAt}
+use Rattle.survey.specs.Filled.{floorMean, sample, heightBy, heightOf}
 use Rattle.survey.proofs.Mean.{mean-itself}
 
 -- how far below the largest spacing
@@ -80,12 +80,12 @@ module _ (m : ℕ) (survey : List ℤ) where
       le-ind (λ (k : ℕ). heightBy k m survey p ≡ heightBy (depth m p) m survey p) refl (λ k b e. more k p h b ∙ e) d l
 
   -- as many ends in a row as the depth give the height
-  pub height-by : (p : Point) → Inside m p → (d : ℕ) → depth m p ≤ d → heightBy d m survey p ≡ heightAt m survey p
-  unfolding heightAt
+  pub height-by : (p : Point) → Inside m p → (d : ℕ) → depth m p ≤ d → heightBy d m survey p ≡ heightOf m survey p
+  unfolding heightOf
   height-by p h d l = enough p h d l ∙ sym (enough p h m (omega arith))
 
-  pub height-surveyed : (p : Point) → isVoid (sample m survey p) ≡ false → heightAt m survey p ≡ sample m survey p
-  unfolding heightAt heightBy
+  pub height-surveyed : (p : Point) → isVoid (sample m survey p) ≡ false → heightOf m survey p ≡ sample m survey p
+  unfolding heightOf heightBy
   height-surveyed p e = go m
     where
       go : (d : ℕ) → heightBy d m survey p ≡ sample m survey p
@@ -93,7 +93,7 @@ module _ (m : ℕ) (survey : List ℤ) where
       go (suc d) = rw e
 
   pub height-void : (p : Point) → Inside m p → isVoid (sample m survey p) ≡ true →
-      heightAt m survey p ≡ floorMean (heightAt m survey (ends m p .first)) (heightAt m survey (ends m p .second))
+      heightOf m survey p ≡ floorMean (heightOf m survey (ends m p .first)) (heightOf m survey (ends m p .second))
   unfolding heightBy
   height-void p h e =
       let u = ends-up m p h in

@@ -15,25 +15,25 @@ use Rattle.grid.specs.Points.{isCorner, ends}
 use Rattle.grid.specs.declared.points.Point.{Point}
 use Rattle.grid.proofs.Spaced.{corner-inside}
 use Rattle.grid.proofs.Places.{place-below, point-place, point-inside}
-use Rattle.survey.specs.Filled.{floorMean, sample, heightBy, heightAt, Cornered}
+use Rattle.survey.specs.Filled.{floorMean, sample, heightBy, heightOf, CornersSurveyed}
 use Rattle.survey.specs.Inner.{Partly, Found}
 use Rattle.survey.proofs.Filling.{depth, ends-up, height-by, height-surveyed, height-void}
 
 -- what a point's sample may be in a partly filled list
 abbrev Either : ℕ → List ℤ → List ℤ → Point → Type 0
-Either m survey heights p = (sample m heights p ≡ sample m survey p) ⊎ (sample m heights p ≡ heightAt m survey p)
+Either m survey heights p = (sample m heights p ≡ sample m survey p) ⊎ (sample m heights p ≡ heightOf m survey p)
 
 pub at-point : (m : ℕ) (survey heights : List ℤ) → Partly m survey heights → (p : Point) → Inside m p → Either m survey heights p
 unfolding sample
 at-point m survey heights part p h =
     subst
-    (λ (q : Point). (getD heights (place m p) void ≡ getD survey (place m p) void) ⊎ (getD heights (place m p) void ≡ heightAt m survey q))
+    (λ (q : Point). (getD heights (place m p) void ≡ getD survey (place m p) void) ⊎ (getD heights (place m p) void ≡ heightOf m survey q))
     (point-place m p h)
     (part .each (place m p) (place-below m p h))
 
 module _ (m : ℕ) (survey heights : List ℤ) (part : Partly m survey heights) where
   -- a sample that is not void any more has its height, and one that still is was void before
-  settled : (p : Point) → Either m survey heights p → isVoid (sample m heights p) ≡ false → sample m heights p ≡ heightAt m survey p
+  settled : (p : Point) → Either m survey heights p → isVoid (sample m heights p) ≡ false → sample m heights p ≡ heightOf m survey p
   settled p (inr e) n = e
   settled p (inl e) n = e ∙ sym (height-surveyed m survey p (ap isVoid (sym e) ∙ n))
 
@@ -46,8 +46,8 @@ module _ (m : ℕ) (survey heights : List ℤ) (part : Partly m survey heights) 
       go false f = absurd (true≢false (sym v ∙ ap isVoid (e ∙ height-surveyed m survey p f) ∙ f))
 
   by-void : (d : ℕ) (p : Point) → Inside m p → (t : Bool) → isVoid (sample m heights p) ≡ t →
-      ((q : Point) → Inside m q → depth m q ≤ d → heightBy d m heights q ≡ heightAt m survey q) → depth m p ≤ suc d →
-      heightBy (suc d) m heights p ≡ heightAt m survey p
+      ((q : Point) → Inside m q → depth m q ≤ d → heightBy d m heights q ≡ heightOf m survey q) → depth m p ≤ suc d →
+      heightBy (suc d) m heights p ≡ heightOf m survey p
   unfolding heightBy
   by-void d p h false n below l = rw n (settled p (at-point m survey heights part p h) n)
   by-void d p h true v below l =
@@ -56,17 +56,17 @@ module _ (m : ℕ) (survey heights : List ℤ) (part : Partly m survey heights) 
       let b = below (ends m p .second) (u .1 .inside) (omega (arith, u .1 .less)) in
       rw v ((λ i. floorMean (a i) (b i)) ∙ sym (height-void m survey p h (still-void p (at-point m survey heights part p h) v)))
 
-  same-by : (d : ℕ) (p : Point) → Inside m p → depth m p ≤ d → heightBy d m heights p ≡ heightAt m survey p
+  same-by : (d : ℕ) (p : Point) → Inside m p → depth m p ≤ d → heightBy d m heights p ≡ heightOf m survey p
   unfolding heightBy
   same-by zero p h l = ⊎-elim (λ e. e ∙ height-by m survey p h 0 l) (λ e. e) (at-point m survey heights part p h)
   same-by (suc d) p h l = by-void d p h (isVoid (sample m heights p)) refl (λ q i k. same-by d q i k) l
 
-  pub partly-same : (p : Point) → Inside m p → heightAt m heights p ≡ heightAt m survey p
-  unfolding heightAt
+  pub partly-same : (p : Point) → Inside m p → heightOf m heights p ≡ heightOf m survey p
+  unfolding heightOf
   partly-same p h = same-by m p h (omega arith)
 
   -- no grid corner has become void
-  pub still-cornered : Cornered m survey → Cornered m heights
+  pub still-cornered : CornersSurveyed m survey → CornersSurveyed m heights
   still-cornered c p e =
       let s = height-surveyed m survey p (c p e) in
       ⊎-elim (λ f. ap isVoid f ∙ c p e) (λ f. ap isVoid (f ∙ s) ∙ c p e) (at-point m survey heights part p (corner-inside m p e))
@@ -86,29 +86,29 @@ partly-then m a b c p q =
 
 -- the height of a point of the survey, kept at its place
 pub partly-kept : (m : ℕ) (a b : List ℤ) (p : Point) → length a ≡ samples m → Inside m p → Partly m a b →
-    Partly m a (set b (place m p) (heightAt m a p))
+    Partly m a (set b (place m p) (heightOf m a p))
 partly-kept m a b p n h part =
     record {
-      long = length-set b (place m p) (heightAt m a p) ∙ part .long;
+      long = length-set b (place m p) (heightOf m a p) ∙ part .long;
       each = λ i l. go i l (ℕ-discrete i (place m p));
     }
   where
     go : (i : ℕ) → i < samples m → Dec (i ≡ place m p) →
-        (getD (set b (place m p) (heightAt m a p)) i void ≡ getD a i void) ⊎
-        (getD (set b (place m p) (heightAt m a p)) i void ≡ heightAt m a (point m i))
+        (getD (set b (place m p) (heightOf m a p)) i void ≡ getD a i void) ⊎
+        (getD (set b (place m p) (heightOf m a p)) i void ≡ heightOf m a (point m i))
     go i l (yes e) =
         let room : place m p < length b = subst (λ (k : ℕ). place m p < k) (sym (part .long ∙ n)) (place-below m p h) in
         inr
-        (ap (λ (k : ℕ). getD (set b (place m p) (heightAt m a p)) k void) e
-        ∙ getD-set-same b (place m p) (heightAt m a p) void room
-        ∙ ap (heightAt m a) (sym (ap (point m) e ∙ point-place m p h)))
+        (ap (λ (k : ℕ). getD (set b (place m p) (heightOf m a p)) k void) e
+        ∙ getD-set-same b (place m p) (heightOf m a p) void room
+        ∙ ap (heightOf m a) (sym (ap (point m) e ∙ point-place m p h)))
     go i l (no d) =
-        let same = getD-set-other b (place m p) i (heightAt m a p) void d in
+        let same = getD-set-other b (place m p) i (heightOf m a p) void d in
         ⊎-elim (λ e. inl (same ∙ e)) (λ e. inr (same ∙ e)) (part .each i l)
 
 -- finding a height that stands there
 pub found-surveyed : (m : ℕ) (a : List ℤ) (p : Point) → isVoid (sample m a p) ≡ false → Found m a a p (sample m a p)
-found-surveyed m a p n = record { height = sym (height-surveyed m a p n); kept = refl; partly = partly-none m a }
+found-surveyed m a p n = record { height = sym (height-surveyed m a p n); written = refl; partly = partly-none m a }
 
 -- finding a void's height: first one end's, then the other's, then the mean, which is kept
 pub found-void : (m : ℕ) (a b c : List ℤ) (p : Point) (x y : ℤ) → length a ≡ samples m → Inside m p → isVoid (sample m a p) ≡ true →
@@ -119,10 +119,10 @@ found-void m a b c p x y n h v f g =
     let u = ends-up m p h in
     let part = partly-then m a b c (f .partly) (g .partly) in
     let second = g .height ∙ partly-same m a b (f .partly) (ends m p .second) (u .1 .inside) in
-    let mean : floorMean x y ≡ heightAt m a p = (λ i. floorMean (f .height i) (second i)) ∙ sym (height-void m a p h v) in
+    let mean : floorMean x y ≡ heightOf m a p = (λ i. floorMean (f .height i) (second i)) ∙ sym (height-void m a p h v) in
     let room : place m p < length c = subst (λ (k : ℕ). place m p < k) (sym (part .long ∙ n)) (place-below m p h) in
     record {
       height = mean;
-      kept = getD-set-same c (place m p) (floorMean x y) void room;
+      written = getD-set-same c (place m p) (floorMean x y) void room;
       partly = subst (λ (z : ℤ). Partly m a (set c (place m p) z)) (sym mean) (partly-kept m a c p n h part);
     }

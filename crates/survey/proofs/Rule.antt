@@ -13,7 +13,7 @@ use Rattle.grid.specs.Points.{isCorner, ends}
 use Rattle.grid.specs.declared.points.Point.{Point}
 use Rattle.grid.proofs.Places.{place-below, point-inside}
 use Rattle.grid.proofs.OnGrid.{length-onGrid, onGrid-point, is-onGrid}
-use Rattle.survey.specs.Filled.{floorMean, sample, heightAt, filled, Cornered}
+use Rattle.survey.specs.Filled.{floorMean, sample, heightOf, filled, CornersSurveyed}
 use Rattle.survey.specs.Rule.{Fills, Sixteen}
 use Rattle.survey.proofs.Mean.{Above, mean-above, above-height, height-not-void, not-void-above}
 use Rattle.survey.proofs.Filling.{depth, ends-up, depth-zero, height-surveyed, height-void}
@@ -21,13 +21,13 @@ use Rattle.survey.proofs.Sweep.{sample-place}
 
 module _ (m : ℕ) (survey : List ℤ) where
   -- the filled list has the height of each point at its place
-  pub filled-sample : (p : Point) → Inside m p → sample m (filled m survey) p ≡ heightAt m survey p
+  pub filled-sample : (p : Point) → Inside m p → sample m (filled m survey) p ≡ heightOf m survey p
   unfolding sample filled
-  filled-sample p h = onGrid-point m (heightAt m survey) void p h
+  filled-sample p h = onGrid-point m (heightOf m survey) void p h
 
   length-filled : length (filled m survey) ≡ samples m
   unfolding filled
-  length-filled = length-onGrid m (heightAt m survey)
+  length-filled = length-onGrid m (heightOf m survey)
 
   pub filled-fills : Fills m survey (filled m survey)
   filled-fills =
@@ -45,7 +45,7 @@ module _ (m : ℕ) (survey : List ℤ) where
   unfolding sample
   small-sample n small p h = small (place m p) (rw n (place-below m p h)) .sfits
 
-  module _ (corners : Cornered m survey) where
+  module _ (corners : CornersSurveyed m survey) where
     -- what holds of every surveyed point, and of a void where it holds of both its ends, holds of every point
     module _ (P : Point → Type 0) (known : (p : Point) → Inside m p → isVoid (sample m survey p) ≡ false → P p)
         (mean : (p : Point) → Inside m p → isVoid (sample m survey p) ≡ true → P (ends m p .first) → P (ends m p .second) → P p) where
@@ -78,27 +78,27 @@ module _ (m : ℕ) (survey : List ℤ) where
     pub fills-only : (heights : List ℤ) → Fills m survey heights → heights ≡ filled m survey
     unfolding filled
     fills-only heights f =
-        is-onGrid m (heightAt m survey) void heights (f .long) (λ i l. sym (sample-place m heights i) ∙ same (point m i) (point-inside m i l))
+        is-onGrid m (heightOf m survey) void heights (f .long) (λ i l. sym (sample-place m heights i) ∙ same (point m i) (point-inside m i l))
       where
-        same : (p : Point) → Inside m p → sample m heights p ≡ heightAt m survey p
+        same : (p : Point) → Inside m p → sample m heights p ≡ heightOf m survey p
         same p h =
-            from-ends (λ q. sample m heights q ≡ heightAt m survey q) (λ q i n. f .surveyed q i n ∙ sym (height-surveyed m survey q n))
+            from-ends (λ q. sample m heights q ≡ heightOf m survey q) (λ q i n. f .surveyed q i n ∙ sym (height-surveyed m survey q n))
             (λ q i v a b. f .voids q i (inner q v) v ∙ (λ j. floorMean (a j) (b j)) ∙ sym (height-void m survey q i v))
             p
             h
 
     module _ (n : length survey ≡ samples m) (small : Sixteen survey) where
-      all-above : (p : Point) → Inside m p → Above (heightAt m survey p)
+      all-above : (p : Point) → Inside m p → Above (heightOf m survey p)
       all-above p h =
-          from-ends (λ q. Above (heightAt m survey q))
+          from-ends (λ q. Above (heightOf m survey q))
           (λ q i k. rw (height-surveyed m survey q k) (not-void-above (sample m survey q) (small-sample n small q i) k))
-          (λ q i v a b. rw (height-void m survey q i v) (mean-above (heightAt m survey (ends m q .first)) (heightAt m survey (ends m q .second)) a b))
+          (λ q i v a b. rw (height-void m survey q i v) (mean-above (heightOf m survey (ends m q .first)) (heightOf m survey (ends m q .second)) a b))
           p
           h
 
       -- every filled height is a height, from -32767 to 32767
       pub filled-height : (p : Point) → Inside m p → Height (sample m (filled m survey) p)
-      filled-height p h = rw (filled-sample p h) (above-height (heightAt m survey p) (all-above p h))
+      filled-height p h = rw (filled-sample p h) (above-height (heightOf m survey p) (all-above p h))
 
       -- so none is void, and a default can't be taken for a missing sample
       pub filled-not-void : (p : Point) → Inside m p → isVoid (sample m (filled m survey) p) ≡ false

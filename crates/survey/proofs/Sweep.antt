@@ -13,13 +13,13 @@ use Rattle.grid.specs.Grid.{void, samples, point, Inside}
 use Rattle.grid.specs.declared.points.Point.{Point}
 use Rattle.grid.proofs.Places.{place-point, point-inside}
 use Rattle.grid.proofs.OnGrid.{is-onGrid}
-use Rattle.survey.specs.Filled.{sample, heightAt, filled}
+use Rattle.survey.specs.Filled.{sample, heightOf, filled}
 use Rattle.survey.specs.Inner.{Partly, Found}
 use Rattle.survey.proofs.Partial.{partly-same, partly-none, partly-then}
 
 pub record Swept (m : ℕ) (survey heights : List ℤ) (i : ℕ) : Type 0 where
   pub partly : Partly m survey heights
-  pub below : (k : ℕ) → k < i → k < samples m → getD heights k void ≡ heightAt m survey (point m k)
+  pub below : (k : ℕ) → k < i → k < samples m → getD heights k void ≡ heightOf m survey (point m k)
 
 -- the sample of the point of a place is what stands there
 pub sample-place : (m : ℕ) (heights : List ℤ) (i : ℕ) → sample m heights (point m i) ≡ getD heights i void
@@ -36,21 +36,21 @@ module _ (m : ℕ) (survey : List ℤ) where
     swept-found after r l f =
         record { partly = partly-then m survey heights after (s .partly) (f .partly); below = λ k b h. go k b h (ℕ-discrete k i) }
       where
-        same : (p : Point) → Inside m p → heightAt m heights p ≡ heightAt m survey p
+        same : (p : Point) → Inside m p → heightOf m heights p ≡ heightOf m survey p
         same = partly-same m survey heights (s .partly)
 
-        go : (k : ℕ) → k < i + 1 → k < samples m → Dec (k ≡ i) → getD after k void ≡ heightAt m survey (point m k)
+        go : (k : ℕ) → k < i + 1 → k < samples m → Dec (k ≡ i) → getD after k void ≡ heightOf m survey (point m k)
         go k b h (yes e) =
             ap (λ (n : ℕ). getD after n void) e
             ∙ sym (sample-place m after i)
-            ∙ f .kept
+            ∙ f .written
             ∙ f .height
             ∙ same (point m i) (point-inside m i l)
-            ∙ ap (λ (n : ℕ). heightAt m survey (point m n)) (sym e)
+            ∙ ap (λ (n : ℕ). heightOf m survey (point m n)) (sym e)
         go k b h (no d) =
             ⊎-elim (λ e. e ∙ s .below k (omega arith) h) (λ e. e ∙ same (point m k) (point-inside m k h)) (f .partly .each k h)
 
   pub swept-all : (heights : List ℤ) (i : ℕ) → length survey ≡ samples m → samples m ≤ i → Swept m survey heights i → heights ≡ filled m survey
   unfolding filled
   swept-all heights i n l s =
-      is-onGrid m (heightAt m survey) void heights (s .partly .long ∙ n) (λ k h. s .below k (omega arith) h)
+      is-onGrid m (heightOf m survey) void heights (s .partly .long ∙ n) (λ k h. s .below k (omega arith) h)

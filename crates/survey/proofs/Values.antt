@@ -4,7 +4,7 @@ use mathlib.Core.List.{List, [], _∷_}
 use lib.IntN.{ℤ, pos, negsuc}
 use Rattle.grid.specs.Grid.{void, place, point, onGrid}
 use Rattle.grid.specs.Points.{level, spacing, units, isCorner, kind, ends}
-use Rattle.survey.specs.Filled.{floorMean, sample, heightBy, heightAt, filled}
+use Rattle.survey.specs.Filled.{floorMean, sample, heightBy, heightOf, filled}
 
 -- -3 and -4 give -4
 pub downward : floorMean (negsuc 2) (negsuc 3) ≡ negsuc 3
@@ -21,5 +21,5 @@ abbrev v : ℤ → List ℤ
 v middle = negsuc 2 ∷ pos 0 ∷ pos 0 ∷ pos 0 ∷ middle ∷ pos 0 ∷ pos 0 ∷ pos 0 ∷ negsuc 3 ∷ []
 
 pub filled-v : filled 1 (v void) ≡ v (negsuc 3)
-unfolding filled heightAt heightBy sample onGrid place point ends kind units spacing level isCorner
+unfolding filled heightOf heightBy sample onGrid place point ends kind units spacing level isCorner
 filled-v = refl

@@ -13,14 +13,14 @@ use Rattle.grid.specs.declared.points.Point.{Point}
 use Rattle.survey.specs.Filled.{floorMean, sample}
 
 -- heights are the filled heights of a survey: one for each sample; a surveyed sample keeps its height; the height of a void
--- is the floor of the mean of its two ends' heights, voids among them. (A grid corner has no ends; selection refuses a
--- survey with a void one.)
+-- is the floor of the mean of its two ends' heights, voids among them. (A grid corner has no ends: where one is
+-- void, which selection refuses, this says nothing of its height.)
 pub record Fills (m : ℕ) (survey heights : List ℤ) : Type 0 where
   pub long : length heights ≡ samples m
   pub surveyed : (p : Point) → Inside m p → isVoid (sample m survey p) ≡ false → sample m heights p ≡ sample m survey p
   pub voids : (p : Point) → Inside m p → isCorner m p ≡ false → isVoid (sample m survey p) ≡ true →
       sample m heights p ≡ floorMean (sample m heights (ends m p .first)) (sample m heights (ends m p .second))
 
--- each sample is a number of 16 bits, as a survey of the code has them
+-- each sample is a signed number of 16 bits, as a survey of the code has them
 abbrev pub Sixteen : List ℤ → Type 0
 Sixteen survey = (i : ℕ) → i < length survey → SFits w16 (getD survey i void)

@@ -5,7 +5,7 @@ ghost use mathlib.Core.Path.{_≡_};
 ghost use lib.ListN.{length};
 ghost use Prim.Native.Nat.{_/_, _<_};
 ghost use Rattle.grid.specs.Grid.{Sound, Inside, samples, point};
-ghost use Rattle.survey.specs.Filled.{floorMean, heightAt, filled, Cornered};
+ghost use Rattle.survey.specs.Filled.{floorMean, heightOf, filled, CornersSurveyed};
 ghost use Rattle.survey.specs.Inner.{Found};
 
 // Counted from the void mark no sum is below zero, so plain division is the floor.
@@ -23,7 +23,7 @@ fn floor_mean(a: i16, b: i16) -> i16
 
 // Recurses to the ends; what was found is kept in heights, so that no height is worked out twice.
 fn height_of(g: Grid, p: Point, heights: &mut [i16]) -> i16
-    requires { ⌜ Sound g × Inside (g .m) p × (length (now heights) ≡ samples (g .m)) × Cornered (g .m) (now heights) ⌝ }
+    requires { ⌜ Sound g × Inside (g .m) p × (length (now heights) ≡ samples (g .m)) × CornersSurveyed (g .m) (now heights) ⌝ }
     ensures { λ r. ⌜ Found (g .m) (now (heights .entry)) (now (heights .exit)) p r ⌝ }
 {
     let at = g.place(p);
@@ -52,8 +52,8 @@ fn copy(survey: &[i16], heights: &mut [i16])
 
 // Only a void has to ask for its point.
 fn settle(g: Grid, i: usize, heights: &mut [i16])
-    requires { ⌜ Sound g × (i < samples (g .m)) × (length (now heights) ≡ samples (g .m)) × Cornered (g .m) (now heights) ⌝ }
-    ensures { λ _. ⌜ Found (g .m) (now (heights .entry)) (now (heights .exit)) (point (g .m) i) (heightAt (g .m) (now (heights .entry)) (point (g .m) i)) ⌝ }
+    requires { ⌜ Sound g × (i < samples (g .m)) × (length (now heights) ≡ samples (g .m)) × CornersSurveyed (g .m) (now heights) ⌝ }
+    ensures { λ _. ⌜ Found (g .m) (now (heights .entry)) (now (heights .exit)) (point (g .m) i) (heightOf (g .m) (now (heights .entry)) (point (g .m) i)) ⌝ }
 {
     if Grid::is_void(heights[i]) {
         let p = g.point(i);
@@ -62,7 +62,7 @@ fn settle(g: Grid, i: usize, heights: &mut [i16])
 }
 
 pub fn fill(survey: &[i16], g: Grid, heights: &mut [i16])
-    requires { ⌜ Sound g × (length (now survey) ≡ samples (g .m)) × (length (now heights) ≡ samples (g .m)) × Cornered (g .m) (now survey) ⌝ }
+    requires { ⌜ Sound g × (length (now survey) ≡ samples (g .m)) × (length (now heights) ≡ samples (g .m)) × CornersSurveyed (g .m) (now survey) ⌝ }
     ensures { λ _. ⌜ now (heights .exit) ≡ filled (g .m) (now (survey .entry)) ⌝ }
 {
     copy(survey, heights);

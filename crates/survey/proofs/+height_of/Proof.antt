@@ -16,7 +16,7 @@ use Rattle.grid.proofs.Places.{place-below, samples-small}
 use Rattle.grid.proofs.Level.{level-most}
 use Rattle.grid.proofs.Coarser.{ends-coarser}
 use Rattle.grid.proofs.OnGrid.{any-default}
-use Rattle.survey.specs.Filled.{floorMean, sample, Cornered}
+use Rattle.survey.specs.Filled.{floorMean, sample, CornersSurveyed}
 use Rattle.survey.specs.Inner.{Found}
 use Rattle.survey.proofs.Partial.{found-surveyed, found-void, still-cornered}
 use Prim.Native.Nat.{ℕ, _<_}
@@ -85,7 +85,7 @@ module _ (m : ℕ) (h : List ℤ) (p : Point) (at : ℕ) (n : length h ≡ sampl
         rw (z, e) done
 
 -- a void is no grid corner, so its ends are less deep
-module _ (m : ℕ) (h : List ℤ) (p : Point) (i : Inside m p) (c : Cornered m h) (v : isVoid (sample m h p) ≡ true) where
+module _ (m : ℕ) (h : List ℤ) (p : Point) (i : Inside m p) (c : CornersSurveyed m h) (v : isVoid (sample m h p) ≡ true) where
   inner : (t : Bool) → isCorner m p ≡ t → isCorner m p ≡ false
   inner true e = absurd (true≢false (sym v ∙ c p e))
   inner false e = e

@@ -12,7 +12,7 @@ use Rattle.grid.specs.Grid.{void, isVoid, samples, point, Inside}
 use Rattle.grid.specs.declared.points.Point.{Point}
 use Rattle.grid.proofs.Places.{point-inside}
 use Rattle.grid.proofs.OnGrid.{any-default}
-use Rattle.survey.specs.Filled.{sample, heightAt}
+use Rattle.survey.specs.Filled.{sample, heightOf}
 use Rattle.survey.specs.Inner.{Found}
 use Rattle.survey.proofs.Partial.{found-surveyed}
 use Rattle.survey.proofs.Sweep.{sample-place}
@@ -21,12 +21,12 @@ use Rattle.survey.proofs.settle.Statement.{statement}
 use Rattle.survey.proofs.settle.Tie as tie
 
 -- what was found is the height
-named : (m : ℕ) (a b : List ℤ) (p q : Point) (r : ℤ) → p ≡ q → Found m a b p r → Found m a b q (heightAt m a q)
+named : (m : ℕ) (a b : List ℤ) (p q : Point) (r : ℤ) → p ≡ q → Found m a b p r → Found m a b q (heightOf m a q)
 named m a b p q r e f =
-    let g = subst (λ (z : ℤ). Found m a b p z) (f .height) f in subst (λ (s : Point). Found m a b s (heightAt m a s)) e g
+    let g = subst (λ (z : ℤ). Found m a b p z) (f .height) f in subst (λ (s : Point). Found m a b s (heightOf m a s)) e g
 
 surveyed : (m : ℕ) (a : List ℤ) (i : ℕ) {t : Bool} → i < samples m → length a ≡ samples m → SFits w16 (getD a i (pos 0)) →
-    t ≡ isVoid (toZ w16 (ofZ w16 (getD a i (pos 0)))) → t ≡ false → Found m a a (point m i) (heightAt m a (point m i))
+    t ≡ isVoid (toZ w16 (ofZ w16 (getD a i (pos 0)))) → t ≡ false → Found m a a (point m i) (heightOf m a (point m i))
 surveyed m a i l n f e t =
     let room : i < length a = rw n l in
     let read : toZ w16 (ofZ w16 (getD a i (pos 0))) ≡ sample m a (point m i) =
