@@ -65,53 +65,7 @@ cond-in : {a : ℕ} (t : Bool) (c : ℕ) → List·Memᴰ a (cond t (c ∷ []) [
 cond-in true c i = (refl, List·Memᴰ·eq-of-singleton i)
 cond-in false c i = absurd (List·Memᴰ·not-nil i)
 
--- the numbers of s one below and one above b
-below : (n s b y : ℕ) → Axis n s b y → s ≤ y → Stepped n s b (y - s)
-below n s zero y g h = let z : s * 0 ≡ 0 = mul-zero s in absurd (omega arith)
-below n s (suc b) y g h =
-    let z : s * suc b ≡ s * b + s = mul-suc s b in
-    record { unit = b; times = omega arith; close = omega arith; other = omega arith; most = omega arith }
-
-above : (n s b y : ℕ) → Axis n s b y → y + s ≤ n → Stepped n s b (y + s)
-above n s b y g h =
-    let z : s * suc b ≡ s * b + s = mul-suc s b in
-    record { unit = suc b; times = omega arith; close = omega arith; other = omega arith; most = omega arith }
-
-module _ {n s b y : ℕ} (g : Axis n s b y) where
-  near-in : {c : ℕ} → List·Memᴰ c (near n s y) → Stepped n s b c
-  near-in i =
-      ⊎-elim
-      (λ k. let r = cond-in (leb s y) (y - s) k in rw (r .1) (below n s b y g (leb-true s y (r .0))))
-      (λ k. let r = cond-in (leb (y + s) n) (y + s) k in rw (r .1) (above n s b y g (leb-true (y + s) n (r .0))))
-      (List·Memᴰ·append-cases (cond (leb s y) ((y - s) ∷ []) []) i)
-
-  near-of : {c : ℕ} → Stepped n s b c → List·Memᴰ c (near n s y)
-  near-of {c} t =
-      let v = t .unit in
-      ⊎-elim
-      (λ (k : suc v ≡ b).
-      let z : s * b ≡ s * v + s = rw (← k) (mul-suc s v) in
-      let d : s ≤ y = omega arith in
-      let f : c ≡ y - s = omega arith in
-      Memᴰ·cast f (rw (le-leb s y d) (List·Memᴰ·head refl)))
-      (λ (k : v ≡ suc b).
-      let z : c ≡ s * b + s = t .times ∙ ap (λ (w : ℕ). s * w) k ∙ mul-suc s b in
-      let d : y + s ≤ n = omega arith in
-      let f : c ≡ y + s = omega arith in
-      Memᴰ·append-right (cond (leb s y) ((y - s) ∷ []) []) (Memᴰ·cast f (rw (le-leb (y + s) n d) (List·Memᴰ·head refl))))
-      (choose (decLt v b) (λ k. omega arith) (λ k. omega arith))
-
-  -- a member of a line of the numbers near y
-  pub line-is : (turned : Bool) (x : ℕ) {q : Point} →
-      List·Memᴰ q (inLine turned x (near n s y)) ↔ ((c : ℕ) × Stepped n s b c × (q ≡ laid turned c x))
-  line-is turned x = (
-    λ i.
-        let r = each-in (λ c. laid turned c x ∷ []) (near n s y) i in
-        (r .0, near-in (r .1), List·Memᴰ·eq-of-singleton (r .2)),
-    λ r. each-of (λ c. laid turned c x ∷ []) (near n s y) (near-of (r .1)) (List·Memᴰ·head (r .2)),
-  )
-
--- a member of such a line, in plain coordinates
+-- a number near y; a point on a line of those numbers
 pub near-is : (n s y c : ℕ) → y ≤ n → List·Memᴰ c (near n s y) ↔ (Away s y c × (c ≤ n))
 near-is n s y c l = (
   λ i.
@@ -139,6 +93,45 @@ line-near n s y x turned l = (
   λ r. each-of (λ c. laid turned c x ∷ []) (near n s y) (near-is n s y (r .0) l .1 (r .1)) (List·Memᴰ·head (r .2)),
 )
 
+-- the numbers of s one below and one above b
+below : (n s b y c : ℕ) → Axis n s b y → c + s ≡ y → Stepped n s b c
+below n s zero y c g e = let z : s * 0 ≡ 0 = mul-zero s in absurd (omega arith)
+below n s (suc b) y c g e =
+    let z : s * suc b ≡ s * b + s = mul-suc s b in
+    record { unit = b; times = omega arith; close = omega arith; other = omega arith; most = omega arith }
+
+above : (n s b y c : ℕ) → Axis n s b y → c ≡ y + s → c ≤ n → Stepped n s b c
+above n s b y c g e l =
+    let z : s * suc b ≡ s * b + s = mul-suc s b in
+    record { unit = suc b; times = omega arith; close = omega arith; other = omega arith; most = l }
+
+-- s away, counted in units of s
+module _ {n s b y : ℕ} (g : Axis n s b y) where
+  stepped-is : {c : ℕ} → (Away s y c × (c ≤ n)) ↔ Stepped n s b c
+  stepped-is {c} = (
+    λ a. ⊎-elim (below n s b y c g) (λ e. above n s b y c g e (a .1)) (a .0),
+    λ t.
+        let v = t .unit in (
+          ⊎-elim
+              (λ (k : suc v ≡ b). let z : s * b ≡ s * v + s = rw (← k) (mul-suc s v) in inl (omega arith))
+              (λ (k : v ≡ suc b). let z : c ≡ s * b + s = t .times ∙ ap (λ (w : ℕ). s * w) k ∙ mul-suc s b in inr (omega arith))
+              (choose (decLt v b) (λ k. omega arith) (λ k. omega arith)),
+          t .most,
+        ),
+  )
+
+  near-stepped : {c : ℕ} → List·Memᴰ c (near n s y) ↔ Stepped n s b c
+  near-stepped {c} =
+      let e = near-is n s y c (g .most) in (λ i. stepped-is .0 (e .0 i), λ t. e .1 (stepped-is .1 t))
+
+  pub line-is : (turned : Bool) (x : ℕ) {q : Point} →
+      List·Memᴰ q (inLine turned x (near n s y)) ↔ ((c : ℕ) × Stepped n s b c × (q ≡ laid turned c x))
+  line-is turned x =
+      let e = line-near n s y x turned (g .most) in (
+        λ i. let r = e .0 i in (r .0, stepped-is .0 (r .1), r .2),
+        λ r. e .1 (r .0, stepped-is .1 (r .1), r .2),
+      )
+
 -- a member crosswise: near both ways
 pub crossing-is : {n s a b x y : ℕ} {q : Point} → Axis n s a x → Axis n s b y →
     List·Memᴰ q (crossing n s x y) ↔ (Stepped n s a (q .x) × Stepped n s b (q .y))
@@ -146,7 +139,7 @@ crossing-is {n} {s} {a} {b} {x} {y} {q} g h = (
   λ i.
       let r = each-in (λ c. inLine false c (near n s x)) (near n s y) i in
       let t = line-is g false (r .0) .0 (r .2) in
-      rw (t .2) (t .1, near-in h (r .1)),
+      rw (t .2) (t .1, near-stepped h .0 (r .1)),
   λ t.
-      each-of (λ c. inLine false c (near n s x)) (near n s y) (near-of h (t .1)) (line-is g false (q .y) .1 (q .x, t .0, refl)),
+      each-of (λ c. inLine false c (near n s x)) (near n s y) (near-stepped h .1 (t .1)) (line-is g false (q .y) .1 (q .x, t .0, refl)),
 )

@@ -15,7 +15,7 @@ use Rattle.grid.specs.Points.{level, spacing, units, isCorner, kind, end
 use Rattle.grid.specs.Rule.{LargestPower, Away, Around, BothOdd, BothEven, Centre, along, AwayAlong, Edge}
 use Rattle.grid.specs.declared.points.Point.{Point}
 use Rattle.grid.proofs.Level.{Divides, level-divides, level-largest}
-use Rattle.grid.proofs.Spaced.{View, view, level-below, east-units, north-units, spacing-positive, before}
+use Rattle.grid.proofs.Spaced.{View, view, level-below, east-units, north-units, spacing-positive, odd-times, before}
 use Rattle.grid.proofs.Parity.{Sort, eastWest, northSouth, rising, falling, sort}
 use Rattle.grid.proofs.Room.{Reached, room}
 use Rattle.grid.proofs.Around.{same-point}
@@ -63,11 +63,7 @@ record Sides (s c h : ℕ) : Type 0 where
 
 sides : (s a c : ℕ) → 0 < s → s ≤ c → c ≡ s * a → a % 2 ≡ 1 → Sides s c (a / 2)
 sides s a c pos l e o =
-    let d : a ≡ 2 * (a / 2) + 1 = omega arith in
-    let f : s * a ≡ 2 * s * (a / 2) + s =
-    ap (λ (n : ℕ). s * n) d ∙ mul-add s (2 * (a / 2)) 1
-    ∙ (let g : s * (2 * (a / 2)) ≡ 2 * s * (a / 2) = sym (mul-assoc s 2 (a / 2)) ∙ ap (λ (n : ℕ). n * (a / 2)) (mul-comm s 2) in
-    omega (arith, mul-one s)) in
+    let f = odd-times s a o in
     let u : c + s ≡ 2 * s * (a / 2 + 1) =
     let g : 2 * s * (a / 2 + 1) ≡ 2 * s * (a / 2) + 2 * s = mul-add (2 * s) (a / 2) 1 ∙ ap (λ (n : ℕ). 2 * s * (a / 2) + n) (mul-one (2 * s)) in
     omega arith in
@@ -244,7 +240,7 @@ module _ (m s : ℕ) (p : Point) (h : Inside m p) (t : Bool) where
   on-axis : (u : Bool) {c : ℕ} {q : Point} → Away s (along u p) c → q ≡ laid u c (along (not u) p) → AwayAlong u s p q
   on-axis u {c} a e =
       let w = along-laid u c (along (not u) p) in
-      rw e (record { away = rw (w .0) a; level = w .1 })
+      rw e (record { away = rw (w .0) a; same = w .1 })
 
   edge-ends : s ≤ along t p → (q : Point) →
       List·Memᴰ q (both (pair (laid t (along t p - s) (along (not t) p)) (laid t (along t p + s) (along (not t) p)))) ↔ AwayAlong t s p q
@@ -258,8 +254,8 @@ module _ (m s : ℕ) (p : Point) (h : Inside m p) (t : Bool) where
           List·Memᴰ q (both (pair (laid t (along t p - s) (along (not t) p)) (laid t (along t p + s) (along (not t) p))))
       of a (inl e) =
           let f : along t q ≡ along t p - s = omega arith in
-          List·Memᴰ·head (is-laid t f (a .level))
-      of a (inr e) = List·Memᴰ·tail (List·Memᴰ·head (is-laid t e (a .level)))
+          List·Memᴰ·head (is-laid t f (a .same))
+      of a (inr e) = List·Memᴰ·tail (List·Memᴰ·head (is-laid t e (a .same)))
 
   edge-others : (q : Point) →
       List·Memᴰ q (inLine t (along (not t) p) (near (side m) s (along t p))) ↔ (AwayAlong t s p q × Inside m q)
@@ -269,7 +265,7 @@ module _ (m s : ℕ) (p : Point) (h : Inside m p) (t : Bool) where
             let r = n .0 i in
             let w = along-laid t (r .0) (along (not t) p) in
             (on-axis t (r .1 .0) (r .2), inside-by t q (rw (r .2, w .0) (r .1 .1)) (rw (r .2, w .1) (inside-along (not t) p h))),
-        λ r. n .1 (along t q, (r .0 .away, inside-along t q (r .1)), is-laid t refl (r .0 .level)),
+        λ r. n .1 (along t q, (r .0 .away, inside-along t q (r .1)), is-laid t refl (r .0 .same)),
       )
 
 -- an edge point: of x/s and y/s the one along an axis is odd, the other even

@@ -31,3 +31,8 @@ module _ (g : Grid) (p : Point) (t : Site) (e : t ≡ site (g .m) p) (s : Sound 
       f (t .kind) (g .side) (t .spacing) (p .x) (p .y) ≡ f (kind (g .m) p) (side (g .m)) (spacing (g .m) p) (p .x) (p .y)
   unfolding site
   answered f = λ i. f (e i .kind) (s .sided i) (e i .spacing) (p .x) (p .y)
+
+-- by a kind whose line reaches s back both ways: what a function for a diagonal, or for a centre, asks
+pub both-ways : {k d : Kind} {s x y : ℕ} → k ≡ d → (Back d s x y → (s ≤ x) × (s ≤ y)) →
+    (s ≤ widest) × (x ≤ widest) × (y ≤ widest) × Back k s x y → (s ≤ x) × (s ≤ y) × (x ≤ widest) × (y ≤ widest)
+both-ways {s = s} {x = x} {y = y} e f r = let b = f (subst (λ (u : Kind). Back u s x y) e (r .3)) in (b .0, b .1, r .1, r .2)

@@ -32,15 +32,17 @@ pub spacing-positive : (m : ℕ) (p : Point) → 0 < spacing m p
 unfolding spacing
 spacing-positive m p = pow-pos (level m (p .x) (p .y))
 
+-- an odd number of s, in units of 2s
+pub odd-times : (s a : ℕ) → a % 2 ≡ 1 → s * a ≡ 2 * s * (a / 2) + s
+odd-times s a o =
+    let d : a ≡ 2 * (a / 2) + 1 = omega arith in
+    let f : s * (2 * (a / 2)) ≡ 2 * s * (a / 2) = sym (mul-assoc s 2 (a / 2)) ∙ ap (λ (n : ℕ). n * (a / 2)) (mul-comm s 2) in
+    ap (λ (n : ℕ). s * n) d ∙ mul-add s (2 * (a / 2)) 1 ∙ omega (arith, mul-one s)
+
 -- counted in units of 2s, the coordinate before an odd number of s is the half of that number
 pub before : (s a : ℕ) → 0 < s → a % 2 ≡ 1 → (s * a - s) / (2 * s) ≡ a / 2
 before s a h o =
-    let d : a ≡ 2 * (a / 2) + 1 = omega arith in
-    let e : s * a ≡ 2 * s * (a / 2) + s =
-    ap (λ (n : ℕ). s * n) d ∙ mul-add s (2 * (a / 2)) 1
-    ∙ (let f : s * (2 * (a / 2)) ≡ 2 * s * (a / 2) = sym (mul-assoc s 2 (a / 2)) ∙ ap (λ (n : ℕ). n * (a / 2)) (mul-comm s 2) in
-    omega (arith, mul-one s)) in
-    let g : s * a - s ≡ 2 * s * (a / 2) = omega arith in
+    let g : s * a - s ≡ 2 * s * (a / 2) = omega (arith, odd-times s a o) in
     ap (λ (n : ℕ). n / (2 * s)) g ∙ mul-div-cancel-left (a / 2) (omega arith)
 
 -- x at a multiple of N, and at most N, is at an end

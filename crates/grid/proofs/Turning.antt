@@ -19,36 +19,38 @@ left-sum c u v w e = sym (mul-assoc 2 c w) ∙ ap (λ (n : ℕ). n * w) e ∙ ad
 right-sum : (c u v w : ℕ) → 2 * c ≡ u + v → 2 * (w * c) ≡ w * u + w * v
 right-sum c u v w e = ap (λ (n : ℕ). 2 * n) (mul-comm w c) ∙ left-sum c u v w e ∙ (λ i. mul-comm u w i + mul-comm v w i)
 
--- a half turns the other way, with half the doubled area
-module _ (l a r c : Point) (h : Halfway c l r) where
-  first-half : 2 * onward l c a + onward l a r ≡ 2 * backward l c a + backward l a r
-  first-half =
-      omega (
-        arith,
-        left-sum (c .x) (l .x) (r .x) (a .y) (h .east),
-        left-sum (c .x) (l .x) (r .x) (l .y) (h .east),
-        right-sum (c .y) (l .y) (r .y) (l .x) (h .north),
-        left-sum (c .y) (l .y) (r .y) (a .x) (h .north),
-        mul-comm (a .y) (r .x),
-        mul-comm (l .y) (a .x),
-        mul-comm (r .y) (a .x),
-        mul-comm (l .y) (r .x),
-        mul-comm (l .x) (l .y),
-      )
+-- read backwards, a triangle turns the other way
+mirror : (p q w : Point) → (onward w q p ≡ backward p q w) × (backward w q p ≡ onward p q w)
+mirror p q w =
+    omega (
+      arith,
+      mul-comm (q .x) (p .y),
+      mul-comm (p .x) (w .y),
+      mul-comm (q .y) (w .x),
+      mul-comm (q .x) (w .y),
+      mul-comm (p .x) (q .y),
+      mul-comm (p .y) (w .x),
+    )
 
-  second-half : 2 * onward a c r + onward l a r ≡ 2 * backward a c r + backward l a r
-  second-half =
-      omega (
-        arith,
-        left-sum (c .x) (l .x) (r .x) (r .y) (h .east),
-        left-sum (c .x) (l .x) (r .x) (a .y) (h .east),
-        right-sum (c .y) (l .y) (r .y) (a .x) (h .north),
-        left-sum (c .y) (l .y) (r .y) (r .x) (h .north),
-        mul-comm (a .y) (r .x),
-        mul-comm (l .y) (a .x),
-        mul-comm (l .y) (r .x),
-        mul-comm (r .x) (r .y),
-      )
+-- a half turns the other way, with half the doubled area
+first-half : (l a r c : Point) → Halfway c l r → 2 * onward l c a + onward l a r ≡ 2 * backward l c a + backward l a r
+first-half l a r c h =
+    omega (
+      arith,
+      left-sum (c .x) (l .x) (r .x) (a .y) (h .east),
+      left-sum (c .x) (l .x) (r .x) (l .y) (h .east),
+      right-sum (c .y) (l .y) (r .y) (l .x) (h .north),
+      left-sum (c .y) (l .y) (r .y) (a .x) (h .north),
+      mul-comm (a .y) (r .x),
+      mul-comm (l .y) (a .x),
+      mul-comm (r .y) (a .x),
+      mul-comm (l .y) (r .x),
+      mul-comm (l .x) (l .y),
+    )
+
+-- the second half is the first half of the triangle read backwards
+second-half : (l a r c : Point) → Halfway c l r → 2 * onward a c r + onward l a r ≡ 2 * backward a c r + backward l a r
+second-half l a r c h = omega (arith, first-half r a l c (omega arith), mirror a c r, mirror l a r)
 
 -- (l, a, r) has the doubled area 2^k: onward where k is even, backward where it is odd
 pub record Turns (k : ℕ) (l a r : Point) : Type 0 where
@@ -88,5 +90,5 @@ pub counter-clockwise : {m k : ℕ} {l a r : Point} → Triangle m k l a r →
     (k % 2 ≡ 0 → CounterClockwise l a r) × (k % 2 ≡ 1 → CounterClockwise r a l)
 counter-clockwise {k = k} {l = l} {a = a} {r = r} t = (
   λ e. omega (arith, turns t .even e, pow-pos k),
-  λ o. omega (arith, turns t .odd o, pow-pos k, mul-comm (l .x) (r .y), mul-comm (a .y) (r .x), mul-comm (a .x) (l .y), mul-comm (a .x) (r .y), mul-comm (l .x) (a .y), mul-comm (l .y) (r .x)),
+  λ o. omega (arith, turns t .odd o, pow-pos k, mirror l a r),
 )

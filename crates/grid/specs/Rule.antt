@@ -51,7 +51,7 @@ along true p = p .y
 -- q is s away from p along an axis
 pub record AwayAlong (turned : Bool) (s : ℕ) (p q : Point) : Type 0 where
   pub away : Away s (along turned p) (along turned q)
-  pub level : along (not turned) q ≡ along (not turned) p
+  pub same : along (not turned) q ≡ along (not turned) p
 
 -- the ends of an edge point are the points s away along the axis with the odd one; it depends on the points s away along the
 -- other axis, those inside the square

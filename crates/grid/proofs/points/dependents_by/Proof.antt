@@ -1,6 +1,7 @@
 -- `grid::points::dependents_by` meets its contract, kind by kind.
 use native.Mathlib.Omega.{arith}
 use borrow.Author.Needs.{needs}
+use Rattle.grid.proofs.Sited.{both-ways}
 use Rattle.grid.proofs.points.dependents_by.Statement.{statement}
 use Rattle.grid.proofs.points.dependents_by.Tie as tie
 
@@ -26,17 +27,13 @@ enum-told-4 : tie.Need-enum-told-4
 enum-told-4 c = search needs
 
 beside-requires : tie.Need-beside-requires
-beside-requires c κs =
-    let back = rw (c .enum-told4 .given .1) at (c .before .before .pre .3) in
-    (back .0, back .1, c .before .before .pre .1, c .before .before .pre .2)
+beside-requires c κs = both-ways (c .enum-told4 .given .1) (λ b. b) (c .before .before .pre)
 
 enum-told-5 : tie.Need-enum-told-5
 enum-told-5 c = search needs
 
 beside-requires-2 : tie.Need-beside-requires-2
-beside-requires-2 c κs =
-    let back = rw (c .enum-told5 .given .1) at (c .before .before .pre .3) in
-    (back .0, back .1, c .before .before .pre .1, c .before .before .pre .2)
+beside-requires-2 c κs = both-ways (c .enum-told5 .given .1) (λ b. b) (c .before .before .pre)
 
 returns : tie.Need-returns
 returns c = rw (c .before .enum-told .given .1) (c .none .ensures)

@@ -4,6 +4,7 @@ use mathlib.Core.Path.{ap}
 use Rattle.grid.specs.Points.{both}
 use Rattle.grid.proofs.Near.{relist, listed-then, itself, counts}
 use borrow.Author.Needs.{needs}
+use Rattle.grid.proofs.Sited.{both-ways}
 use Rattle.grid.proofs.points.depends_by.Statement.{statement}
 use Rattle.grid.proofs.points.depends_by.Tie as tie
 
@@ -35,9 +36,7 @@ enum-told-4 : tie.Need-enum-told-4
 enum-told-4 c = search needs
 
 diagonal-requires : tie.Need-diagonal-requires
-diagonal-requires c κs =
-    let back = rw (c .enum-told4 .given .1) at (c .before .before .before .pre .3) in
-    (back .0, back .1, c .before .before .before .pre .1, c .before .before .before .pre .2)
+diagonal-requires c κs = both-ways (c .enum-told4 .given .1) (λ b. b) (c .before .before .before .pre)
 
 both-requires : tie.Need-both-requires
 both-requires c κs = search needs
@@ -46,9 +45,7 @@ enum-told-5 : tie.Need-enum-told-5
 enum-told-5 c = search needs
 
 diagonal-requires-2 : tie.Need-diagonal-requires-2
-diagonal-requires-2 c κs =
-    let back = rw (c .enum-told5 .given .1) at (c .before .before .before .pre .3) in
-    (back .0, back .1, c .before .before .before .pre .1, c .before .before .before .pre .2)
+diagonal-requires-2 c κs = both-ways (c .enum-told5 .given .1) (λ b. b) (c .before .before .before .pre)
 
 both-requires-2 : tie.Need-both-requires-2
 both-requires-2 c κs = search needs

@@ -1,5 +1,6 @@
 -- `grid::points::ends_by` meets its contract, kind by kind.
 use borrow.Author.Needs.{needs}
+use Rattle.grid.proofs.Sited.{both-ways}
 use Rattle.grid.proofs.points.ends_by.Statement.{statement}
 use Rattle.grid.proofs.points.ends_by.Tie as tie
 
@@ -37,17 +38,13 @@ enum-told-4 : tie.Need-enum-told-4
 enum-told-4 c = search needs
 
 diagonal-requires : tie.Need-diagonal-requires
-diagonal-requires c κs =
-    let back = rw (c .enum-told4 .given .1) at (c .before .before .pre .3) in
-    (back .0, back .1, c .before .before .pre .1, c .before .before .pre .2)
+diagonal-requires c κs = both-ways (c .enum-told4 .given .1) (λ b. b) (c .before .before .pre)
 
 enum-told-5 : tie.Need-enum-told-5
 enum-told-5 c = search needs
 
 diagonal-requires-2 : tie.Need-diagonal-requires-2
-diagonal-requires-2 c κs =
-    let back = rw (c .enum-told5 .given .1) at (c .before .before .pre .3) in
-    (back .0, back .1, c .before .before .pre .1, c .before .before .pre .2)
+diagonal-requires-2 c κs = both-ways (c .enum-told5 .given .1) (λ b. b) (c .before .before .pre)
 
 returns : tie.Need-returns
 returns c = rw (c .before .enum-told .given .1) (c .pair-of .ensures)
