@@ -1,17 +1,16 @@
 -- The ends of a point that is no grid corner lie inside the square and have a higher level: at least twice its spacing.
-use mathlib.Core.Path.{_≡_, refl, sym, ap, _∙_, subst}
-use mathlib.Core.Bool.{Bool, true, false}
-use Prim.Native.Nat.{ℕ, suc, _+_, _-_, _*_, _^_, _/_, _%_, _≤_, _<_}
+use mathlib.Core.Path.{_≡_, ap, _∙_}
+use mathlib.Core.Bool.{false}
+use Prim.Native.Nat.{ℕ, suc, _+_, _-_, _*_, _%_, _≤_, _<_}
 use native.Mathlib.Nat.{mul-suc, mul-one, mul-add}
 use native.Mathlib.Omega.{arith}
 use Rattle.grid.specs.Grid.{side, at, Inside}
-use Rattle.grid.specs.Points.{level, spacing, units, isCorner, kind, ends, endsBy, pair}
+use Rattle.grid.specs.Points.{level, spacing, units, isCorner, kind, ends, endsBy}
 use Rattle.grid.specs.declared.points.Point.{Point}
 use Rattle.grid.specs.declared.points.Pair.{Pair}
-use Rattle.grid.specs.declared.points.Kind.{Kind}
-use Rattle.grid.specs.declared.points.Kind.the-variants.{Corner, EastWest, NorthSouth, Rising, Falling}
-use Rattle.grid.proofs.Level.{Divides, level-largest}
-use Rattle.grid.proofs.Spaced.{View, view, east-units, north-units, level-below, twice-units}
+use Rattle.grid.specs.declared.points.Kind.the-variants.{EastWest, NorthSouth, Rising, Falling}
+use Rattle.grid.proofs.Level.{level-largest}
+use Rattle.grid.proofs.Spaced.{east-units, north-units, level-below, twice-units}
 use Rattle.grid.proofs.Parity.{Sort, eastWest, northSouth, rising, falling, sort}
 use Rattle.grid.proofs.Room.{Reach, Reached, room}
 

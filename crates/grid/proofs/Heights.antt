@@ -1,13 +1,13 @@
 -- Heights counted from the void mark are whole numbers below 65536, 0 exactly for void, and counting back gives the height.
-use mathlib.Core.Path.{_≡_, refl, sym, ap, _∙_, subst}
+use mathlib.Core.Path.{_≡_, refl}
 use mathlib.Core.Bool.{Bool, true, false, cond}
-use Prim.Native.Nat.{ℕ, zero, suc, _+_, _-_, _*_, _^_, _≤_, _<_}
+use Prim.Native.Nat.{ℕ, suc, _-_, _<_}
 use native.Mathlib.Omega.{arith}
-use lib.Dec.{eqb, ltb}
-use lib.IntN.{ℤ, pos, negsuc, natAbs, _+ℤ_, _-ℤ_, subℕ}
+use lib.Dec.{ltb}
+use lib.IntN.{ℤ, pos, negsuc, _-ℤ_}
 use lib.Signed.{mag}
-use borrow.Author.Tests.{le-ltb, lt-ltb, eq-eqb, ne-eqb}
-use Rattle.grid.specs.Grid.{void, isVoid, raise, lower}
+use borrow.Author.Tests.{le-ltb}
+use Rattle.grid.specs.Grid.{void, raise, lower}
 
 -- h - void, for a height that 16 bits hold
 pub from-void : (h : ℤ) → mag h < 32768 → h -ℤ void ≡ pos (raise h)

@@ -2,15 +2,15 @@
 -- So a point (2^j·a, 2^j·b) with a or b odd has level j, and it is the largest j for which 2^j divides both.
 use mathlib.Core.Path.{_≡_, refl, sym, ap, _∙_, subst}
 use mathlib.Core.Bool.{Bool, true, false, cond, _&&_, true≢false}
-use mathlib.Core.Logic.{_⊎_, inl, inr, ⊎-elim}
-use Prim.Native.Nat.{ℕ, zero, suc, _+_, _-_, _*_, _^_, _/_, _%_, _≤_, _<_}
-use native.Mathlib.Nat.{pow-suc, mod-one, mod-lt, div-add-mod, add-mul-mod-self-left, mod-eq-of-lt, mul-assoc, mul-comm, mul-add}
-use native.Mathlib.Nat.{mod-mod-of-dvd, dvd-mul-left, one-mul, zero-mod}
+use mathlib.Core.Logic.{_⊎_, inl, inr}
+use Prim.Native.Nat.{ℕ, zero, suc, _+_, _*_, _^_, _/_, _%_, _≤_, _<_}
+use native.Mathlib.Nat.{pow-suc, mod-one, mod-lt, div-add-mod, add-mul-mod-self-left, mod-eq-of-lt, mul-assoc, mul-comm}
+use native.Mathlib.Nat.{mod-mod-of-dvd, dvd-mul-left, one-mul}
 use native.Mathlib.Omega.{arith}
 use native.Mathlib.Decide.{ℕ-discrete}
 use lib.Dec.{T, eqb, eqb→eq}
 use lib.Pow.{pow-pos}
-use borrow.Author.Tests.{eq-eqb, ne-eqb, eqb-true}
+use borrow.Author.Tests.{eq-eqb, ne-eqb}
 use Rattle.grid.specs.Points.{level, dividesBoth}
 use Rattle.grid.proofs.Table.{both}
 

@@ -1,15 +1,15 @@
 -- The kind of a point by the parities of its units: which is odd, and for a centre whether their halves are alike.
 -- `sort` gives the kind of a point that is no grid corner together with those parities.
-use mathlib.Core.Path.{_≡_, refl, sym, ap, _∙_, subst}
-use mathlib.Core.Bool.{Bool, true, false, cond}
+use mathlib.Core.Path.{_≡_, ap, _∙_}
+use mathlib.Core.Bool.{true, false}
 use mathlib.Core.Logic.{_≢_, ⊎-elim}
-use Prim.Native.Nat.{ℕ, _+_, _-_, _*_, _/_, _%_, _<_}
+use Prim.Native.Nat.{ℕ, _-_, _*_, _/_, _%_, _<_}
 use native.Mathlib.Decide.{ℕ-discrete}
 use native.Mathlib.Omega.{arith}
 use borrow.Author.Tests.{eq-eqb, ne-eqb}
 use lib.Dec.{eqb}
 use Rattle.grid.specs.Grid.{at, Inside}
-use Rattle.grid.specs.Points.{units, spacing, isCorner, kind, kindBy, alike, odd}
+use Rattle.grid.specs.Points.{units, spacing, isCorner, kind, alike, odd}
 use Rattle.grid.specs.declared.points.Point.{Point}
 use Rattle.grid.specs.declared.points.Kind.the-variants.{Corner, EastWest, NorthSouth, Rising, Falling}
 use Rattle.grid.proofs.Spaced.{View, view, east-units, north-units, spacing-positive, before}

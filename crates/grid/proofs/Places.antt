@@ -1,12 +1,12 @@
 -- Places and points are inverse, a place is below the number of samples, and the place of a midpoint is half the sum of
 -- the places: a place is linear in its point.
 use mathlib.Core.Path.{_≡_, refl, sym, ap, _∙_, subst⁻¹}
-use Prim.Native.Nat.{ℕ, zero, suc, _+_, _-_, _*_, _^_, _/_, _%_, _≤_, _<_}
+use Prim.Native.Nat.{ℕ, _+_, _*_, _/_, _%_, _≤_, _<_}
 use native.Mathlib.Nat.{mul-add-div-right, mul-add-mod-self-right, div-eq-of-lt, mod-eq-of-lt, div-add-mod', mod-lt, div-lt-iff-lt-mul}
 use native.Mathlib.Nat.{mul-le-mul, mul-le-mul-right, one-mul, mul-assoc, add-mul, add-zero}
 use native.Mathlib.Omega.{arith}
-use lib.Pow.{pow-mono, pow-pos}
-use Rattle.grid.specs.Grid.{side, samples, at, place, point, midpoint, midplace, Inside, largest, widest, gridOf, Sound}
+use lib.Pow.{pow-mono}
+use Rattle.grid.specs.Grid.{side, samples, at, place, point, midplace, Inside, largest, widest, gridOf, Sound}
 use Rattle.grid.specs.declared.Grid.{Grid}
 use Rattle.grid.specs.declared.points.Point.{Point}
 

@@ -1,12 +1,12 @@
 -- The line on which a point's ends lie stays inside the square: s back and s on from the point.
-use mathlib.Core.Path.{_≡_, refl, sym, ap, _∙_, subst}
+use mathlib.Core.Path.{_≡_, refl}
 use mathlib.Core.Bool.{Bool, true, false}
-use Prim.Native.Nat.{ℕ, suc, _+_, _-_, _*_, _/_, _%_, _≤_, _<_}
+use Prim.Native.Nat.{ℕ, suc, _+_, _*_, _%_, _≤_}
 use native.Mathlib.Nat.{mul-suc, mul-le-mul-left, mul-one}
 use native.Mathlib.Omega.{arith}
 use lib.Pow.{pow-mono}
 use Rattle.grid.specs.Grid.{side, Inside}
-use Rattle.grid.specs.Points.{level, spacing, units, isCorner, kind}
+use Rattle.grid.specs.Points.{spacing, units, isCorner, kind}
 use Rattle.grid.specs.Inner.{Back}
 use Rattle.grid.specs.declared.points.Point.{Point}
 use Rattle.grid.specs.declared.points.Kind.{Kind}

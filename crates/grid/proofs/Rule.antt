@@ -1,12 +1,12 @@
 -- The spacing is the largest power of two dividing both coordinates; a centre's ends are the two of the four points around it
 -- that have, in units of 2s, both coordinates odd or both even, and it depends on the other two; an edge point's ends lie s
 -- away along the axis of the odd unit, and what it depends on along the other. A point that is no grid corner is one or other.
-use mathlib.Core.Path.{_≡_, refl, sym, ap, _∙_, subst}
+use mathlib.Core.Path.{_≡_, refl, sym, ap, _∙_}
 use mathlib.Core.Bool.{Bool, true, false, not}
 use mathlib.Core.List.{List, [], _∷_, List·Memᴰ, List·Memᴰ·head, List·Memᴰ·tail, List·Memᴰ·cases-cons, List·Memᴰ·eq-of-singleton}
 use mathlib.Core.Logic.{_⊎_, inl, inr, ⊎-elim, _↔_, _≢_}
 use Prim.Native.Nat.{ℕ, suc, _+_, _-_, _*_, _^_, _/_, _%_, _≤_, _<_}
-use native.Mathlib.Nat.{mul-assoc, mul-comm, mul-add, mul-one, mul-div-cancel-left, mod-mod-of-dvd, dvd-mul-right, zero-mod, pow-suc}
+use native.Mathlib.Nat.{mul-add, mul-one, mul-div-cancel-left, mod-mod-of-dvd, dvd-mul-right, zero-mod, pow-suc}
 use native.Mathlib.Decide.{ℕ-discrete, decLe}
 use native.Mathlib.Omega.{arith}
 use lib.Pow.{pow-mono, pow-add}
@@ -14,8 +14,8 @@ use Rattle.grid.specs.Grid.{side, at, Inside}
 use Rattle.grid.specs.Points.{level, spacing, units, isCorner, kind, ends, endsBy, pair, diagonal, both, near, laid, inLine, dependsOn, dependsBy}
 use Rattle.grid.specs.Rule.{LargestPower, Away, Around, BothOdd, BothEven, Centre, along, AwayAlong, Edge}
 use Rattle.grid.specs.declared.points.Point.{Point}
-use Rattle.grid.proofs.Level.{Divides, level-divides, level-largest}
-use Rattle.grid.proofs.Spaced.{View, view, level-below, east-units, north-units, spacing-positive, odd-times, before}
+use Rattle.grid.proofs.Level.{level-divides, level-largest}
+use Rattle.grid.proofs.Spaced.{view, level-below, east-units, north-units, spacing-positive, odd-times, before}
 use Rattle.grid.proofs.Parity.{Sort, eastWest, northSouth, rising, falling, sort}
 use Rattle.grid.proofs.Room.{Reached, room}
 use Rattle.grid.proofs.Around.{same-point}

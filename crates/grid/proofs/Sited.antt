@@ -1,6 +1,5 @@
 -- What a function that goes by a point's site may ask, and what it answers, carried from the site to the point.
-use mathlib.Core.Path.{_≡_, refl, sym, ap, _∙_, subst}
-use mathlib.Core.List.{List}
+use mathlib.Core.Path.{_≡_, subst}
 use Prim.Native.Nat.{ℕ, _≤_}
 use native.Mathlib.Omega.{arith}
 use Rattle.grid.specs.Grid.{side, Sound, Inside, widest}

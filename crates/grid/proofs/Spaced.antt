@@ -1,20 +1,20 @@
 -- A point that is no grid corner is 2^j times (a, b), a or b odd, with j below m: its level is j, its spacing 2^j, its
 -- units a and b. So what holds at spacing 1 is carried to every spacing.
 use mathlib.Core.Path.{_≡_, refl, sym, ap, _∙_, subst, subst₂}
-use mathlib.Core.Bool.{Bool, true, false, cond, _&&_, _||_, or-true, true≢false}
+use mathlib.Core.Bool.{Bool, true, false, _&&_, _||_, or-true, true≢false}
 use mathlib.Core.Logic.{_⊎_, inl, inr, ⊎-elim}
 use Prim.Native.Nat.{ℕ, zero, suc, _+_, _-_, _*_, _^_, _/_, _%_, _≤_, _<_}
-use native.Mathlib.Nat.{div-add-mod, mul-div-cancel-left, mul-comm, mul-assoc, pow-suc, mul-le-mul-left, le-of-mul-le-mul-left, add-zero, mul-zero, mul-suc, mul-add, mul-one, mul-mod-right, lt-irrefl, zero-mod, mod-self, le-antisymm, le-refl}
+use native.Mathlib.Nat.{div-add-mod, mul-div-cancel-left, mul-comm, mul-assoc, pow-suc, le-of-mul-le-mul-left, add-zero, mul-zero, mul-suc, mul-add, mul-one, mul-mod-right, lt-irrefl, zero-mod, mod-self, le-antisymm, le-refl}
 use native.Mathlib.Decide.{ℕ-discrete}
 use native.Mathlib.Omega.{arith}
 use lib.Dec.{T, eqb}
 use lib.Pow.{pow-pos, pow-add}
 use borrow.Author.Tests.{eq-eqb, ne-eqb}
-use Rattle.grid.specs.Grid.{side, at, Inside}
+use Rattle.grid.specs.Grid.{side, Inside}
 use Rattle.grid.specs.Points.{level, spacing, units, isCorner, outermost}
 use Rattle.grid.specs.declared.points.Point.{Point}
 use Rattle.grid.proofs.Table.{both}
-use Rattle.grid.proofs.Level.{Divides, level-units, level-divides, level-most, level-largest}
+use Rattle.grid.proofs.Level.{Divides, level-divides, level-most, level-largest}
 
 exactly : (d x : ℕ) → x % d ≡ 0 → x ≡ d * (x / d)
 exactly d x e = sym (sym (ap (λ (n : ℕ). d * (x / d) + n) e ∙ add-zero (d * (x / d))) ∙ div-add-mod x d)

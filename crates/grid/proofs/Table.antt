@@ -1,6 +1,6 @@
 -- A table's rule holds at each of its rows when a test passes over the whole table.
 -- The test is computed row by row; `row` turns it into the rule at any one of them.
-use mathlib.Core.Path.{_≡_, refl, subst}
+use mathlib.Core.Path.{_≡_, subst}
 use mathlib.Core.Bool.{Bool, true, false, _&&_}
 use mathlib.Core.List.{List, [], _∷_}
 use Prim.Native.Nat.{ℕ, zero, suc, _+_, _<_}

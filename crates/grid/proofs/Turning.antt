@@ -1,12 +1,11 @@
 -- A triangle of the hierarchy with k cuts left has the doubled area 2^k, and turns counter-clockwise, read l, a, r, where k is
 -- even, and read r, a, l, where k is odd: each half has half the doubled area and turns the other way.
-use mathlib.Core.Path.{_≡_, refl, sym, ap, _∙_}
-use mathlib.Core.Logic.{_⊎_, inl, inr}
-use Prim.Native.Nat.{ℕ, zero, suc, _+_, _*_, _^_, _%_}
-use native.Mathlib.Nat.{pow-suc, mul-assoc, add-mul, mul-add, mul-comm, mul-zero, zero-mul}
+use mathlib.Core.Path.{_≡_, sym, ap, _∙_}
+use Prim.Native.Nat.{ℕ, suc, _+_, _*_, _^_, _%_}
+use native.Mathlib.Nat.{pow-suc, mul-assoc, add-mul, mul-comm, mul-zero, zero-mul}
 use native.Mathlib.Omega.{arith}
 use lib.Pow.{pow-add, pow-pos}
-use Rattle.grid.specs.Grid.{side, at, midpoint}
+use Rattle.grid.specs.Grid.{side, midpoint}
 use Rattle.grid.specs.Turn.{onward, backward, CounterClockwise}
 use Rattle.grid.specs.Hierarchy.{Triangle, first, second, firstHalf, secondHalf}
 use Rattle.grid.specs.declared.points.Point.{Point}

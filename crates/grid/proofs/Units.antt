@@ -1,6 +1,6 @@
 -- A point 2^j·(a, b) with a or b odd has level j, spacing 2^j, and units a and b; with j below m it is no grid corner,
 -- for a grid corner has level m. So the ranks from 2m on are those of the grid corners.
-use mathlib.Core.Path.{_≡_, refl, ap}
+use mathlib.Core.Path.{_≡_, ap}
 use mathlib.Core.Bool.{Bool, true, false}
 use mathlib.Core.Logic.{_⊎_, inl, inr}
 use Prim.Native.Nat.{ℕ, _+_, _-_, _*_, _^_, _%_, _≤_, _<_}

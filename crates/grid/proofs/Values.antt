@@ -5,13 +5,12 @@ use mathlib.Core.Bool.{Bool, true, false}
 use mathlib.Core.List.{List, [], _∷_, map}
 use Prim.Native.Nat.{ℕ}
 use lib.IntN.{pos, negsuc}
-use Rattle.grid.specs.Grid.{at, place, point, isVoid, inQuarters, midplace}
+use Rattle.grid.specs.Grid.{at, place, point, isVoid, inQuarters}
 use Rattle.grid.specs.Refusal.{numbers}
 use Rattle.grid.specs.Mark.{goodMark, keptMark, filledMark}
 use Rattle.grid.specs.Sizes.{sizeAnswer}
 use Rattle.grid.specs.Points.{level, spacing, units, isCorner, kind, ends, pair, dependsOn, dependents, rank}
 use Rattle.grid.specs.declared.points.Point.{Point}
-use Rattle.grid.specs.declared.points.Pair.{Pair}
 use Rattle.grid.specs.declared.sizes.SizeAnswer.{SizeAnswer}
 
 -- point (x, y) at place y·(N+1)+x, x east, y north

@@ -1,6 +1,6 @@
 -- The grid: its void mark, its quarter-cell factor, its largest size; where a point lies and what is halfway between two.
 -- Document 01, "The grid". Definitions only.
-use mathlib.Core.Bool.{Bool, true, false}
+use mathlib.Core.Bool.{Bool, false}
 use mathlib.Core.List.{List, [], _∷_}
 use Prim.Native.Nat.{ℕ, zero, suc, _+_, _*_, _^_, _/_, _%_, _≤_}
 use lib.Dec.{eqb}

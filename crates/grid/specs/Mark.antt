@@ -1,5 +1,5 @@
 -- What a mark may be, what it keeps, what it says of the sample. Document 01, "Marks". Definitions only.
-use mathlib.Core.Bool.{Bool, true, false, cond, _||_}
+use mathlib.Core.Bool.{Bool, cond, _||_}
 use Prim.Native.Nat.{ℕ}
 use lib.Dec.{eqb, leb}
 

@@ -1,5 +1,5 @@
 -- The eight sizes and what each holds. Document 01, "The grid" and refusal 1. Definitions only.
-use mathlib.Core.Bool.{Bool, cond}
+use mathlib.Core.Bool.{cond}
 use Prim.Native.Nat.{ℕ, _*_}
 use lib.Dec.{leb}
 use Rattle.grid.specs.Grid.{side, samples, largest}

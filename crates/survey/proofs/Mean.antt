@@ -1,15 +1,15 @@
 -- The floor of the mean is what halving the sum counted from the void mark gives: plain division, so no sign can slip.
 -- And it is the floor: twice it is the sum, or one less.
-use mathlib.Core.Path.{_≡_, refl, sym, ap, _∙_, subst}
+use mathlib.Core.Path.{_≡_, refl, sym, ap, _∙_}
 use mathlib.Core.Bool.{Bool, true, false, cond}
 use mathlib.Core.Logic.{_⊎_, inl, inr}
-use Prim.Native.Nat.{ℕ, zero, suc, _+_, _-_, _*_, _/_, _%_, _≤_, _<_}
+use Prim.Native.Nat.{ℕ, suc, _+_, _-_, _/_, _%_, _≤_, _<_}
 use native.Mathlib.Decide.{ℕ-discrete}
 use native.Mathlib.Omega.{arith}
-use lib.Dec.{eqb, ltb}
+use lib.Dec.{ltb}
 use lib.IntN.{ℤ, pos, negsuc, sucℤ, _+ℤ_, subℕ}
 use lib.Signed.{mag}
-use borrow.Author.Tests.{le-ltb, lt-ltb, ltb-true, ltb-false, ne-eqb, eq-eqb, eqb-false}
+use borrow.Author.Tests.{le-ltb, lt-ltb, ltb-true, ltb-false, ne-eqb, eqb-false}
 use Rattle.grid.specs.Grid.{Height, isVoid, raise, lower}
 use Rattle.grid.proofs.Heights.{lower-fits, raise-below}
 use Rattle.survey.specs.Filled.{floorHalf, floorMean}

@@ -1,17 +1,17 @@
 -- Keeping a found height in the list changes no height: a partly filled list has the heights of the list it came from.
 -- So partly filling goes on from itself, and one more found height kept is still a partly filled list.
 use mathlib.Core.Path.{_≡_, refl, sym, ap, _∙_, subst}
-use mathlib.Core.Bool.{Bool, true, false, cond, true≢false}
+use mathlib.Core.Bool.{Bool, true, false, true≢false}
 use mathlib.Core.Logic.{_⊎_, inl, inr, ⊎-elim}
 use mathlib.Core.List.{List}
-use Prim.Native.Nat.{ℕ, zero, suc, _+_, _-_, _≤_, _<_}
+use Prim.Native.Nat.{ℕ, zero, suc, _≤_, _<_}
 use native.Mathlib.Decide.{ℕ-discrete}
 use native.Mathlib.Omega.{arith}
 use lib.ListN.{length, getD, set, length-set}
 use lib.Seq.{getD-set-same, getD-set-other}
 use lib.IntN.{ℤ}
 use Rattle.grid.specs.Grid.{void, isVoid, samples, place, point, Inside}
-use Rattle.grid.specs.Points.{isCorner, ends}
+use Rattle.grid.specs.Points.{ends}
 use Rattle.grid.specs.declared.points.Point.{Point}
 use Rattle.grid.proofs.Spaced.{corner-inside}
 use Rattle.grid.proofs.Places.{place-below, point-place, point-inside}

@@ -1,11 +1,11 @@
 -- The filled heights follow the rule, they are the only ones that do where no grid corner is void, and none of them is void.
 -- Each by the depth below the largest spacing, which falls from a point to its ends.
-use mathlib.Core.Path.{_≡_, refl, sym, ap, _∙_, subst}
+use mathlib.Core.Path.{_≡_, refl, sym, _∙_}
 use mathlib.Core.Bool.{Bool, true, false, true≢false}
 use mathlib.Core.List.{List}
-use Prim.Native.Nat.{ℕ, zero, suc, _-_, _≤_, _<_}
+use Prim.Native.Nat.{ℕ, zero, suc, _≤_, _<_}
 use native.Mathlib.Omega.{arith}
-use lib.ListN.{length, getD}
+use lib.ListN.{length}
 use lib.IntN.{ℤ}
 use lib.Signed.{mag}
 use Rattle.grid.specs.Grid.{void, isVoid, Height, samples, place, point, Inside}

@@ -1,7 +1,7 @@
 -- The filled heights: every sample's height, found from its ends' heights where it is void. Document 01, "Points, ends and
 -- dependencies". Definitions only.
 use mathlib.Core.Path.{_≡_}
-use mathlib.Core.Bool.{Bool, true, false, cond}
+use mathlib.Core.Bool.{true, false, cond}
 use mathlib.Core.List.{List}
 use Prim.Native.Nat.{ℕ, zero, suc, _/_}
 use lib.ListN.{getD}

@@ -1,6 +1,6 @@
 -- `show_points::show_rows` meets its contract: every row lies inside.
 use mathlib.Core.Path.{_≡_, refl}
-use Prim.Native.Nat.{ℕ, _+_, _-_, _≤_}
+use Prim.Native.Nat.{_+_, _-_}
 use native.Mathlib.Omega.{arith}
 use Rattle.grid.proofs.Places.{side-small}
 use Rattle.show_points.proofs.show_rows.Statement.{statement}

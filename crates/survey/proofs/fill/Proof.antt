@@ -1,11 +1,10 @@
 -- `survey::fill` meets its contract: every place is swept.
-use mathlib.Core.Path.{_≡_, refl, sym, ap, _∙_, subst}
+use mathlib.Core.Path.{sym, _∙_, subst}
 use mathlib.Core.List.{List}
-use Prim.Native.Nat.{ℕ, _+_, _-_, _≤_, _<_}
+use Prim.Native.Nat.{_-_, _≤_, _<_}
 use native.Mathlib.Omega.{arith}
 use lib.ListN.{length}
 use lib.IntN.{ℤ}
-use borrow.Author.Needs.{needs}
 use Rattle.grid.specs.Grid.{samples}
 use Rattle.grid.proofs.Places.{samples-small}
 use Rattle.survey.proofs.Partial.{still-cornered}

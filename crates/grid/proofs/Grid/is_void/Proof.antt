@@ -1,7 +1,6 @@
 -- `grid::Grid::is_void` meets its contract: of all heights of 16 bits only -32768 has the bits of the void mark.
-use mathlib.Core.Path.{_≡_, refl, sym, _∙_}
+use mathlib.Core.Path.{_≡_, sym, _∙_}
 use Prim.Native.Nat.{_<_, suc, _-_}
-use mathlib.Core.Bool.{true, false}
 use native.Mathlib.Omega.{arith}
 use native.Mathlib.Decide.{ℕ-discrete}
 use lib.Dec.{eqb}

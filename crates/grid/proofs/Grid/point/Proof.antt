@@ -1,6 +1,5 @@
 -- `grid::Grid::point` meets its contract: row and column of a place below the number of samples are at most N.
-use mathlib.Core.Path.{_≡_, refl, sym, ap, _∙_}
-use Prim.Native.Nat.{ℕ, _+_, _*_, _<_, _≤_, _%_, _/_}
+use Prim.Native.Nat.{ℕ, _+_, _<_, _≤_, _%_, _/_}
 use native.Mathlib.Omega.{arith}
 use borrow.Author.Needs.{needs}
 use Rattle.grid.specs.Grid.{point, samples, Sound, Inside, widest}

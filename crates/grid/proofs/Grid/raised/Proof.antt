@@ -1,11 +1,10 @@
 -- `grid::Grid::raised` meets its contract: the height less the void mark is never below zero.
 use mathlib.Core.Path.{_≡_, ap, _∙_, sym, subst}
-use Prim.Native.Nat.{_<_}
 use native.Mathlib.Omega.{arith}
 use borrow.Author.Needs.{needs}
 use lib.Dec.{T}
 use lib.IntN.{ℤ, pos, natAbs, _-ℤ_}
-use lib.Signed.{nonNeg, mag}
+use lib.Signed.{nonNeg}
 use mir.Syntax.{w16, w32}
 use mir.Val.{SFits, Fits, toZ, ofZ}
 use mir.Facts.{toZ-ofZ}

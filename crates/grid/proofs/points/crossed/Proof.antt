@@ -1,5 +1,5 @@
 -- `grid::points::crossed` meets its contract: at spacing 1 there is nothing between.
-use borrow.Author.Tests.{eq-eqb, ne-eqb}
+use borrow.Author.Tests.{ne-eqb}
 use borrow.Author.Needs.{needs}
 use Rattle.grid.proofs.points.crossed.Statement.{statement}
 use Rattle.grid.proofs.points.crossed.Tie as tie

@@ -1,5 +1,4 @@
 -- `grid::points::dependents_by` meets its contract, kind by kind.
-use native.Mathlib.Omega.{arith}
 use borrow.Author.Needs.{needs}
 use Rattle.grid.proofs.Sited.{both-ways}
 use Rattle.grid.proofs.points.dependents_by.Statement.{statement}

@@ -1,6 +1,6 @@
 -- `grid::points::is_corner` meets its contract: both coordinates are at an end.
-use mathlib.Core.Path.{_≡_, refl, sym, _∙_}
-use mathlib.Core.Bool.{Bool, true, false, _&&_}
+use mathlib.Core.Path.{_≡_, _∙_}
+use mathlib.Core.Bool.{Bool, _&&_}
 use borrow.Author.Needs.{needs}
 use Rattle.grid.specs.Points.{isCorner}
 use Rattle.grid.proofs.points.is_corner.Statement.{statement}

@@ -1,8 +1,8 @@
 -- `grid::points::units_of` meets its contract. The invariant: the point is s times (a, b), and what is left to find of its
 -- spacing is the spacing of (a, b). Each turn halves both.
 use mathlib.Core.Path.{_≡_, refl, sym, ap, _∙_}
-use mathlib.Core.Logic.{_⊎_, inl, inr}
-use Prim.Native.Nat.{ℕ, zero, suc, _+_, _-_, _*_, _^_, _/_, _%_, _≤_, _<_}
+use mathlib.Core.Logic.{inl, inr}
+use Prim.Native.Nat.{ℕ, zero, suc, _-_, _*_, _^_, _/_, _%_, _≤_, _<_}
 use native.Mathlib.Nat.{le-trans, le-of-eq, le-mul-of-pos-right, not-suc-le-zero, pow-suc, mul-one, one-mul, mul-assoc, mul-comm, mul-div-cancel-left}
 use native.Mathlib.Omega.{arith}
 use lib.Pow.{pow-pos}
