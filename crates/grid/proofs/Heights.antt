@@ -14,9 +14,12 @@ pub from-void : (h : ℤ) → mag h < 32768 → h -ℤ void ≡ pos (raise h)
 from-void (pos n) f = refl
 from-void (negsuc n) f = rw (le-ltb 32768 (suc n) f)
 
+pub raise-minus : (n : ℕ) → n < 32768 → raise (negsuc n) ≡ 32768 - suc n
+raise-minus n f = rw (le-ltb 32768 (suc n) f)
+
 pub raise-below : (h : ℤ) → mag h < 32768 → raise h < 65536
 raise-below (pos n) f = omega arith
-raise-below (negsuc n) f = rw (le-ltb 32768 (suc n) f) (omega arith)
+raise-below (negsuc n) f = rw (raise-minus n f) (omega arith)
 
 -- a number counted from the void mark, counted back, is a height of 16 bits
 pub lower-fits : (b : ℕ) → b < 65536 → mag (lower b) < 32768

@@ -28,6 +28,10 @@ module _ {A : Type 0} where
   any-default (a ∷ l) zero d e h = refl
   any-default (a ∷ l) (suc i) d e h = any-default l i d e (le-of-suc-le-suc h)
 
+  -- a point's place is an index of such a list
+  pub room : {m : ℕ} {p : Point} {i : ℕ} (l : List A) → length l ≡ samples m → Inside m p → i ≡ place m p → i < length l
+  room {m} {p} l n h e = rw (e, n) (place-below m p h)
+
   module _ (m : ℕ) (f : Point → A) where
     pub length-onGrid : length (onGrid m f) ≡ samples m
     unfolding onGrid

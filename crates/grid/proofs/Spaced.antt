@@ -137,6 +137,10 @@ corner-ends m p e =
     let t = both (outermost m (p .x)) (outermost m (p .y)) (subst T (sym e) tt) in
     (holds (outermost m (p .x)) (t .0), holds (outermost m (p .y)) (t .1))
 
+-- and so is 0 or N
+pub corner-at : (m : ℕ) (p : Point) → isCorner m p ≡ true → ((p .x ≡ 0) ⊎ (p .x ≡ side m)) × ((p .y ≡ 0) ⊎ (p .y ≡ side m))
+corner-at m p e = let c = corner-ends m p e in (end-is m (p .x) (c .0), end-is m (p .y) (c .1))
+
 pub corner-inside : (m : ℕ) (p : Point) → isCorner m p ≡ true → Inside m p
 corner-inside m p e =
     let c = corner-ends m p e in

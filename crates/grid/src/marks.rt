@@ -2,44 +2,64 @@
 ghost use mathlib.Core.Path.{_≡_};
 ghost use Rattle.grid.specs.Mark.{goodMark, keptMark, filledMark};
 
+pub struct Mark {
+    pub value: u8,
+}
+
+impl Mark {
+    pub const LEFT_OUT: u8 = 0;
+
+    pub const FOR_ERROR: u8 = 1;
+
+    pub const FOR_DEPENDENCE: u8 = 2;
+
+    pub const FOR_CORNER: u8 = 3;
+
+    pub const IF_VOID: u8 = 4;
+
+    pub const VOID_OUT: u8 = Mark::LEFT_OUT + Mark::IF_VOID;
+
+    pub const VOID_KEPT: u8 = Mark::FOR_DEPENDENCE + Mark::IF_VOID;
+}
+
 pub fn good(corner: bool, mark: u8) -> bool
     ensures { λ r. ⌜ r ≡ goodMark corner mark ⌝ }
 {
     if corner {
-        return mark == 3;
+        return mark == Mark::FOR_CORNER;
     }
-    if mark == 0 {
+    if mark == Mark::LEFT_OUT {
         return true;
     }
-    if mark == 1 {
+    if mark == Mark::FOR_ERROR {
         return true;
     }
-    if mark == 2 {
+    if mark == Mark::FOR_DEPENDENCE {
         return true;
     }
-    if mark == 4 {
+    if mark == Mark::VOID_OUT {
         return true;
     }
-    mark == 6
+    mark == Mark::VOID_KEPT
 }
 
 pub fn kept(mark: u8) -> bool
     ensures { λ r. ⌜ r ≡ keptMark mark ⌝ }
 {
-    if mark == 1 {
+    if mark == Mark::FOR_ERROR {
         return true;
     }
-    if mark == 2 {
+    if mark == Mark::FOR_DEPENDENCE {
         return true;
     }
-    if mark == 3 {
+    if mark == Mark::FOR_CORNER {
         return true;
     }
-    mark == 6
+    mark == Mark::VOID_KEPT
 }
 
 pub fn filled(mark: u8) -> bool
     ensures { λ r. ⌜ r ≡ filledMark mark ⌝ }
 {
-    4 <= mark
+    Mark::IF_VOID <= mark
 }

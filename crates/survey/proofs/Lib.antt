@@ -1,3 +1,4 @@
+pub mod Reading
 pub mod Mean
 pub mod Filling
 pub mod Partial

@@ -11,11 +11,8 @@ use lib.IntN.{ℤ, pos, negsuc, sucℤ, _+ℤ_, subℕ}
 use lib.Signed.{mag}
 use borrow.Author.Tests.{le-ltb, lt-ltb, ltb-true, ltb-false, ne-eqb, eqb-false}
 use Rattle.grid.specs.Grid.{Height, isVoid, raise, lower}
-use Rattle.grid.proofs.Heights.{lower-fits, raise-below}
+use Rattle.grid.proofs.Heights.{lower-fits, raise-minus, raise-below}
 use Rattle.survey.specs.Filled.{floorHalf, floorMean}
-
-raise-minus : (n : ℕ) → n < 32768 → raise (negsuc n) ≡ 32768 - suc n
-raise-minus n h = rw (le-ltb 32768 (suc n) h)
 
 lower-high : (b : ℕ) → 32768 ≤ b → lower b ≡ pos (b - 32768)
 lower-high b h = rw (le-ltb b 32768 h)

@@ -25,7 +25,7 @@ module _ (m : ℕ) (survey : List ℤ) where
   unfolding sample filled
   filled-sample p h = onGrid-point m (heightOf m survey) void p h
 
-  length-filled : length (filled m survey) ≡ samples m
+  pub length-filled : length (filled m survey) ≡ samples m
   unfolding filled
   length-filled = length-onGrid m (heightOf m survey)
 

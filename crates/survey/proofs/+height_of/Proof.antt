@@ -8,16 +8,17 @@ use lib.IntN.{ℤ, pos}
 use mir.Syntax.{w16}
 use mir.Val.{SFits, toZ, ofZ}
 use mir.Facts.{toZ-ofZ}
-use Rattle.grid.specs.Grid.{void, isVoid, samples, place, Inside}
+use Rattle.grid.specs.Grid.{isVoid, samples, place, Inside}
 use Rattle.grid.specs.Points.{isCorner, ends}
 use Rattle.grid.specs.declared.points.Point.{Point}
 use Rattle.grid.specs.declared.points.Pair.{Pair}
 use Rattle.grid.proofs.Places.{place-below, samples-small}
 use Rattle.grid.proofs.Level.{level-most}
 use Rattle.grid.proofs.Coarser.{ends-coarser}
-use Rattle.grid.proofs.OnGrid.{any-default}
+use Rattle.grid.proofs.OnGrid.{room}
 use Rattle.survey.specs.Filled.{floorMean, sample, CornersSurveyed}
 use Rattle.survey.specs.Inner.{Found}
+use Rattle.survey.proofs.Reading.{read}
 use Rattle.survey.proofs.Partial.{found-surveyed, found-void, still-cornered}
 use Prim.Native.Nat.{ℕ, _<_}
 use Rattle.survey.proofs.Filling.{depth}
@@ -59,30 +60,23 @@ calls t = (
 )
 
 -- what the code reads and hands on, in the words of the definition
-module _ (m : ℕ) (h : List ℤ) (p : Point) (at : ℕ) (n : length h ≡ samples m) (i : Inside m p) (e : at ≡ place m p) where
-  room : at < length h
-  room = rw (e, n) (place-below m p i)
+module _ (m : ℕ) (h : List ℤ) (p : Point) (at : ℕ) (n : length h ≡ samples m) (i : Inside m p) (e : at ≡ place m p)
+    (f : SFits w16 (getD h at (pos 0))) where
+  tested : {r t : Bool} → r ≡ isVoid (toZ w16 (ofZ w16 (getD h at (pos 0)))) → r ≡ t → isVoid (sample m h p) ≡ t
+  tested b c = ap isVoid (sym (read h n i e f)) ∙ sym b ∙ c
 
-  module _ (f : SFits w16 (getD h at (pos 0))) where
-    read : toZ w16 (ofZ w16 (getD h at (pos 0))) ≡ sample m h p
-    unfolding sample
-    read = toZ-ofZ f ∙ any-default h at (pos 0) void room ∙ ap (λ (k : ℕ). getD h k void) e
+  surveyed : {r : Bool} → r ≡ isVoid (toZ w16 (ofZ w16 (getD h at (pos 0)))) → r ≡ false →
+      Found m h h p (toZ w16 (ofZ w16 (getD h at (pos 0))))
+  surveyed b c = subst (λ (z : ℤ). Found m h h p z) (sym (read h n i e f)) (found-surveyed m h p (tested b c))
 
-    tested : {r t : Bool} → r ≡ isVoid (toZ w16 (ofZ w16 (getD h at (pos 0)))) → r ≡ t → isVoid (sample m h p) ≡ t
-    tested b c = ap isVoid (sym read) ∙ sym b ∙ c
-
-    surveyed : {r : Bool} → r ≡ isVoid (toZ w16 (ofZ w16 (getD h at (pos 0)))) → r ≡ false →
-        Found m h h p (toZ w16 (ofZ w16 (getD h at (pos 0))))
-    surveyed b c = subst (λ (z : ℤ). Found m h h p z) (sym read) (found-surveyed m h p (tested b c))
-
-    filled : (a b : List ℤ) (q : Pair) (x y f : ℤ) {r : Bool} → r ≡ isVoid (toZ w16 (ofZ w16 (getD h at (pos 0)))) → r ≡ true →
-        q ≡ ends m p → SFits w16 x → SFits w16 y → SFits w16 f →
-        Found m h a (q .first) x → Found m a b (q .second) y → f ≡ floorMean (toZ w16 (ofZ w16 x)) (toZ w16 (ofZ w16 y)) →
-        Found m h (set b at (toZ w16 (ofZ w16 f))) p (toZ w16 (ofZ w16 f))
-    filled a b q x y f c d eq fx fy ff one two mean =
-        let z : toZ w16 (ofZ w16 f) ≡ floorMean x y = toZ-ofZ ff ∙ mean ∙ (λ j. floorMean (toZ-ofZ fx j) (toZ-ofZ fy j)) in
-        let done = found-void m h a b p x y n i (tested c d) (rw eq at one) (rw eq at two) in
-        rw (z, e) done
+  filled : (a b : List ℤ) (q : Pair) (x y f : ℤ) {r : Bool} → r ≡ isVoid (toZ w16 (ofZ w16 (getD h at (pos 0)))) → r ≡ true →
+      q ≡ ends m p → SFits w16 x → SFits w16 y → SFits w16 f →
+      Found m h a (q .first) x → Found m a b (q .second) y → f ≡ floorMean (toZ w16 (ofZ w16 x)) (toZ w16 (ofZ w16 y)) →
+      Found m h (set b at (toZ w16 (ofZ w16 f))) p (toZ w16 (ofZ w16 f))
+  filled a b q x y f c d eq fx fy ff one two mean =
+      let z : toZ w16 (ofZ w16 f) ≡ floorMean x y = toZ-ofZ ff ∙ mean ∙ (λ j. floorMean (toZ-ofZ fx j) (toZ-ofZ fy j)) in
+      let done = found-void m h a b p x y n i (tested c d) (rw eq at one) (rw eq at two) in
+      rw (z, e) done
 
 -- a void is no grid corner, so its ends are less deep
 module _ (m : ℕ) (h : List ℤ) (p : Point) (i : Inside m p) (c : CornersSurveyed m h) (v : isVoid (sample m h p) ≡ true) where
@@ -105,7 +99,7 @@ height-of-mul-h : (t : ℕ) → height-of-lts.Need-mul-h (calls t) (height-of-at
 height-of-mul-h t c = let s = c .before in omega (arith, c .place .ensures, place-below (s .args .g .m) (s .args .p) (s .pre .1 .1), samples-small (s .pre .1 .0 .small))
 
 height-of-slice-copy-out-h : (t : ℕ) → height-of-lts.Need-slice-copy-out-h (calls t) (height-of-at t) height-of.Post
-height-of-slice-copy-out-h t c = let s = c .before in room (s .args .g .m) (s .args .heights .now) (s .args .p) _ (s .pre .1 .2) (s .pre .1 .1) (c .place .ensures)
+height-of-slice-copy-out-h t c = let s = c .before in room (s .args .heights .now) (s .pre .1 .2) (s .pre .1 .1) (c .place .ensures)
 
 height-of-is-void-requires : (t : ℕ) → height-of-lts.Need-is-void-requires (calls t) (height-of-at t) height-of.Post
 height-of-is-void-requires t c κs = tt
@@ -137,7 +131,7 @@ height-of-slice-set-from-f t c =
     let s = c .before .before .before .before .before .before .before .before .before .before .before .before in
     let one = c .before .before .before .before .before .height-of .ensures .partly .long in
     let two = c .before .before .height-of2 .ensures .partly .long in
-    omega (arith, room (s .args .g .m) (s .args .heights .now) (s .args .p) _ (s .pre .1 .2) (s .pre .1 .1) (c .before .before .before .before .before .before .before .before .before .before .before .place .ensures), one, two)
+    omega (arith, room (s .args .heights .now) (s .pre .1 .2) (s .pre .1 .1) (c .before .before .before .before .before .before .before .before .before .before .before .place .ensures), one, two)
 
 height-of-same-length : (t : ℕ) → height-of-lts.Need-same-length (calls t) (height-of-at t) height-of.Post
 height-of-same-length t c =

@@ -11,6 +11,7 @@ use mir.Facts.{toZ-ofZ}
 use Rattle.grid.specs.Grid.{raise, lower}
 use Rattle.grid.proofs.Heights.{raise-below, lower-fits}
 use Rattle.survey.specs.Filled.{floorMean}
+use Rattle.survey.proofs.Reading.{passed}
 use Rattle.survey.proofs.Mean.{mean-raised}
 use Rattle.survey.proofs.floor_mean.Statement.{statement}
 use Rattle.survey.proofs.floor_mean.Tie as tie
@@ -23,10 +24,6 @@ module _ (a b : ℤ) (x y : ℕ) (h : mag a < 32768) (k : mag b < 32768) (e : x 
   value r g =
       let s : SFits w16 r = rw g (record { sfits = lower-fits ((x + y) / 2) small }) in
       toZ-ofZ s ∙ g ∙ (λ i. lower ((e i + f i) / 2)) ∙ sym (mean-raised a b h k)
-
--- a height that is passed on arrives
-passed : {a : ℤ} {x : ℕ} → SFits w16 a → x ≡ raise (toZ w16 (ofZ w16 a)) → x ≡ raise a
-passed f e = e ∙ ap raise (toZ-ofZ f)
 
 raised-requires : tie.Need-raised-requires
 raised-requires c κs = search needs

@@ -7,15 +7,13 @@ use lib.ListN.{length, getD}
 use lib.IntN.{ℤ, pos}
 use mir.Syntax.{w16}
 use mir.Val.{SFits, toZ, ofZ}
-use mir.Facts.{toZ-ofZ}
-use Rattle.grid.specs.Grid.{void, isVoid, samples, point, Inside}
+use Rattle.grid.specs.Grid.{isVoid, samples, point, Inside}
 use Rattle.grid.specs.declared.points.Point.{Point}
-use Rattle.grid.proofs.Places.{point-inside}
-use Rattle.grid.proofs.OnGrid.{any-default}
+use Rattle.grid.proofs.Places.{point-inside, place-point}
 use Rattle.survey.specs.Filled.{sample, heightOf}
 use Rattle.survey.specs.Inner.{Found}
+use Rattle.survey.proofs.Reading.{read}
 use Rattle.survey.proofs.Partial.{found-surveyed}
-use Rattle.survey.proofs.Sweep.{sample-place}
 use borrow.Author.Needs.{needs}
 use Rattle.survey.proofs.settle.Statement.{statement}
 use Rattle.survey.proofs.settle.Tie as tie
@@ -28,10 +26,8 @@ named m a b p q r e f =
 surveyed : (m : ℕ) (a : List ℤ) (i : ℕ) {t : Bool} → i < samples m → length a ≡ samples m → SFits w16 (getD a i (pos 0)) →
     t ≡ isVoid (toZ w16 (ofZ w16 (getD a i (pos 0)))) → t ≡ false → Found m a a (point m i) (heightOf m a (point m i))
 surveyed m a i l n f e t =
-    let room : i < length a = rw n l in
-    let read : toZ w16 (ofZ w16 (getD a i (pos 0))) ≡ sample m a (point m i) =
-    toZ-ofZ f ∙ any-default a i (pos 0) void room ∙ sym (sample-place m a i) in
-    named m a a (point m i) (point m i) (sample m a (point m i)) refl (found-surveyed m a (point m i) (ap isVoid (sym read) ∙ sym e ∙ t))
+    let same = read a n (point-inside m i l) (sym (place-point m i)) f in
+    named m a a (point m i) (point m i) (sample m a (point m i)) refl (found-surveyed m a (point m i) (ap isVoid (sym same) ∙ sym e ∙ t))
 
 mul-is-void : tie.Need-mul-is-void
 mul-is-void c = search needs
