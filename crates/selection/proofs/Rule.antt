@@ -1,0 +1,242 @@
+-- What the promise of selection means, in the document's sentences, of any answer and buffers that meet it; and whatever follows
+-- those sentences meets the promise. So the sentences leave nothing open.
+use mathlib.Core.Path.{_≡_, refl, sym, ap, _∙_}
+use mathlib.Core.Bool.{Bool, true, false, cond, _||_}
+use mathlib.Core.List.{List}
+use mathlib.Core.Logic.{_↔_, _≢_}
+use Prim.Native.Nat.{ℕ, _*_}
+use native.Mathlib.Decide.{ℕ-discrete}
+use lib.Dec.{eqb}
+use lib.ListN.{getD}
+use lib.IntN.{ℤ}
+use borrow.Author.Tests.{eq-eqb, ne-eqb, eqb-true, ltb-true, lt-ltb}
+use Rattle.grid.specs.Grid.{Inside, point, isVoid}
+use Rattle.grid.specs.Points.{isCorner, ends}
+use Rattle.grid.specs.Mark.{leftOut, forError, forCorner, goodMark, keptMark, filledMark}
+use Rattle.grid.specs.Refusal.{accepted}
+use Rattle.grid.specs.declared.points.Point.{Point}
+use Rattle.grid.proofs.Dependence.{depends-rank}
+use Rattle.grid.proofs.OnGrid.{onGrid-point, is-onGrid}
+use Rattle.grid.proofs.Places.{place-point, point-inside}
+use Rattle.grid.proofs.Spaced.{corner-inside}
+use Rattle.survey.specs.Filled.{filled}
+use Rattle.survey.proofs.Filling.{ends-up}
+use Rattle.survey.proofs.Rule.{filled-sample, filled-fills, fills-only}
+use Rattle.selection.specs.Error.{ownDoubledError, exceeding, over}
+use Rattle.selection.specs.Kept.{kept}
+use Rattle.selection.specs.Marks.{markBy, mark, marksOf, count, markedOwn, markedDependence}
+use Rattle.selection.specs.Selected.{Handed, refusal, marksBy, answerOf, marksAfter, heightsAfter, Selects}
+use Rattle.selection.specs.Rule.{Least, Turned, Untouched, markAt, Selection, errorBy, Told}
+use Rattle.selection.specs.declared.Selected.{Selected}
+use Rattle.selection.proofs.Least.{kept-least, least-only}
+use Rattle.selection.proofs.Marked.{kept-mark, good-mark, mark-own, mark-dependent, void-mark, own-surveyed, corners-within}
+use Rattle.selection.proofs.Accepted.{turned, turned-only, accepted-handed}
+use Rattle.selection.proofs.Counted.{marks-long, count-voids}
+
+-- a set that has the same points of the square is least too
+least-alike : {m : ℕ} {over : Point → Bool} {set same : Point → Type 0} → ((p : Point) → Inside m p → set p ↔ same p) →
+    Least m over set → Least m over same
+least-alike {m} alike l =
+    record {
+      closed = record {
+        corners = λ p e. alike p (corner-inside m p e) .0 (l .closed .corners p e);
+        depends = λ p q h s i. alike q (depends-rank m p q h i .0) .0 (l .closed .depends p q h (alike p h .1 s) i);
+      };
+      contains = λ p h o. alike p h .0 (l .contains p h o);
+      least = λ other c o p h s. l .least other c o p h (alike p h .1 s);
+    }
+
+-- the answer carries the refusal number
+answer-refusal : (h : Handed) → answerOf h .refusal ≡ refusal h
+unfolding answerOf
+answer-refusal h = by (ℕ-discrete (refusal h) accepted)
+  where
+    by : Dec (refusal h ≡ accepted) → answerOf h .refusal ≡ refusal h
+    by (yes e) = rw e
+    by (no n) = rw (ne-eqb (refusal h) accepted n)
+
+module _ (h : Handed) where
+  abbrev isOver : Point → Bool
+  isOver = over (h .m) (h .survey) (h .tolerance)
+
+  -- what an accepted call answers
+  abbrev answered : Selected
+  answered = record {
+    refusal = accepted;
+    own = count markedOwn (marksBy h);
+    dependent = count markedDependence (marksBy h);
+    voids = count isVoid (h .survey);
+  }
+
+  abbrev heightsBy : List ℤ
+  heightsBy = filled (h .m) (h .survey)
+
+  -- the mark that stands at a point is its own
+  mark-at : (p : Point) → Inside (h .m) p → markAt (h .m) (marksBy h) p ≡ mark (h .m) (h .survey) isOver p
+  unfolding marksOf
+  mark-at p k = onGrid-point (h .m) (mark (h .m) (h .survey) isOver) leftOut p k
+
+  module _ (ok : refusal h ≡ accepted) where
+    answer-is : answerOf h ≡ answered
+    unfolding answerOf
+    answer-is = rw ok
+
+    marks-are : marksAfter h ≡ marksBy h
+    unfolding marksAfter
+    marks-are = rw ok
+
+    heights-are : heightsAfter h ≡ heightsBy
+    unfolding heightsAfter
+    heights-are = rw ok
+
+    kept-at : (p : Point) → Inside (h .m) p → keptMark (markAt (h .m) (marksBy h) p) ≡ kept (h .m) isOver p
+    kept-at p k = ap keptMark (mark-at p k) ∙ kept-mark (h .m) (h .survey) isOver (own-surveyed (h .m) (h .survey) (2 * h .tolerance)) p k
+
+    own-at : (p : Point) → Inside (h .m) p → markedOwn (markAt (h .m) (marksBy h) p) ≡ isOver p
+    own-at p k =
+        let limit = 2 * h .tolerance in
+        ap markedOwn (mark-at p k)
+        ∙ mark-own (h .m) (h .survey) isOver (own-surveyed (h .m) (h .survey) limit) (corners-within (h .m) (h .survey) limit) p
+
+    selection-of : Selection (h .m) (h .survey) isOver answered (marksBy h) heightsBy
+    selection-of =
+        record {
+          long = marks-long (h .m) (h .survey) isOver;
+          least = least-alike (λ p k. (λ e. kept-at p k ∙ e, λ e. sym (kept-at p k) ∙ e)) (kept-least (h .m) isOver);
+          good = λ p k. rw (mark-at p k) (good-mark (h .m) (h .survey) isOver (own-surveyed (h .m) (h .survey) (2 * h .tolerance)) p);
+          ownMarks = λ p k. (λ e. sym (own-at p k) ∙ eq-eqb _ forError e, λ e. eqb-true _ forError (own-at p k ∙ e));
+          voidMarks = λ p k. rw (mark-at p k) (void-mark (h .m) (h .survey) isOver (accepted-handed h ok .corners) p);
+          fills = filled-fills (h .m) (h .survey);
+          ownCount = refl;
+          dependentCount = refl;
+          voidCount = refl;
+        }
+
+    error-is : (p : Point) → Inside (h .m) p → ownDoubledError (h .m) (h .survey) p ≡ errorBy (h .m) (h .survey) heightsBy p
+    unfolding ownDoubledError
+    error-is p k =
+        let u = ends-up (h .m) p k in
+        rw (
+          filled-sample (h .m) (h .survey) p k,
+          filled-sample (h .m) (h .survey) (ends (h .m) p .first) (u .0 .inside),
+          filled-sample (h .m) (h .survey) (ends (h .m) p .second) (u .1 .inside),
+        )
+
+    told-of : Told (h .m) (h .tolerance) (h .survey) isOver answered (marksBy h) heightsBy
+    unfolding exceeding
+    told-of =
+        let a = accepted-handed h ok in
+        record {
+          exceeds = λ p k. rw (← error-is p k) (ltb-true (2 * h .tolerance) _, lt-ltb (2 * h .tolerance) _);
+          dependence = λ p k. rw (kept-at p k) (ap markedDependence (mark-at p k) ∙ mark-dependent (h .m) (h .survey) isOver p);
+          voids = sym (count-voids (h .m) (h .survey) (a .lengths .survey) isOver (a .corners));
+        }
+
+module _ {h : Handed} {r : Selected} {marks : List ℕ} {heights : List ℤ} (s : Selects h r marks heights) where
+  number : r .refusal ≡ refusal h
+  number = ap (λ (a : Selected). a .refusal) (s .answer) ∙ answer-refusal h
+
+  -- the number given has its case
+  pub turned-down : Turned h (r .refusal)
+  turned-down = rw number (turned h)
+
+  -- refused: nothing but the number
+  pub untouched : r .refusal ≢ accepted → Untouched h r marks heights
+  unfolding answerOf marksAfter heightsAfter
+  untouched n =
+      let none = ne-eqb (refusal h) accepted (λ e. n (number ∙ e)) in
+      let zero : r ≡ record { refusal = refusal h; own = 0; dependent = 0; voids = 0 } = s .answer ∙ rw none in
+      record {
+        own = ap (λ (a : Selected). a .own) zero;
+        dependent = ap (λ (a : Selected). a .dependent) zero;
+        voids = ap (λ (a : Selected). a .voids) zero;
+        marks = s .marks ∙ rw none;
+        heights = s .heights ∙ rw none;
+      }
+
+  -- accepted: the document's sentences, and what follows for a reader
+  pub selection : r .refusal ≡ accepted → Selection (h .m) (h .survey) (over (h .m) (h .survey) (h .tolerance)) r marks heights
+  selection e =
+      let ok = sym number ∙ e in
+      rw (s .answer ∙ answer-is h ok, s .marks ∙ marks-are h ok, s .heights ∙ heights-are h ok) (selection-of h ok)
+
+  pub told : r .refusal ≡ accepted → Told (h .m) (h .tolerance) (h .survey) (over (h .m) (h .survey) (h .tolerance)) r marks heights
+  told e =
+      let ok = sym number ∙ e in
+      rw (s .answer ∙ answer-is h ok, s .marks ∙ marks-are h ok, s .heights ∙ heights-are h ok) (told-of h ok)
+
+-- two tests that hold alike are the same
+same-test : (a b : Bool) → (a ≡ true) ↔ (b ≡ true) → a ≡ b
+same-test true b e = sym (e .0 refl)
+same-test false true e = e .1 refl
+same-test false false e = refl
+
+-- the mark that says what k says
+abbrev alike : ℕ → ℕ
+alike k = markBy (filledMark k) (markedOwn k) (keptMark k)
+
+-- a good mark is told by what it says: whether it keeps its point, whether for its own error, and whether the sample was void
+good-told : (corner : Bool) (k : ℕ) → goodMark corner k ≡ true → k ≡ cond corner forCorner (alike k)
+good-told true k e = eqb-true k forCorner e
+good-told false k e =
+    or (eqb k 0 || eqb k 1 || eqb k 2 || eqb k 4) 6 refl
+    (or (eqb k 0 || eqb k 1 || eqb k 2) 4 refl (or (eqb k 0 || eqb k 1) 2 refl (or (eqb k 0) 1 refl (is 0 refl))))
+    e
+  where
+    is : (n : ℕ) → n ≡ alike n → eqb k n ≡ true → k ≡ alike k
+    is n told e = rw (eqb-true k n e) told
+
+    or : (a : Bool) (n : ℕ) → n ≡ alike n → (a ≡ true → k ≡ alike k) → (a || eqb k n) ≡ true → k ≡ alike k
+    or true n told before e = before refl
+    or false n told before e = is n told e
+
+-- whatever follows the document's sentences meets the promise: of a refused call
+pub refused-only : (h : Handed) {r : Selected} {marks : List ℕ} {heights : List ℤ} → Turned h (r .refusal) → r .refusal ≢ accepted →
+    Untouched h r marks heights → Selects h r marks heights
+unfolding answerOf marksAfter heightsAfter
+refused-only h {r} t n u =
+    let e : r .refusal ≡ refusal h = turned-only h t in
+    let none = ne-eqb (refusal h) accepted (λ k. n (e ∙ k)) in
+    let zero : r ≡ record { refusal = refusal h; own = 0; dependent = 0; voids = 0 } =
+    λ i. record { refusal = e i; own = u .own i; dependent = u .dependent i; voids = u .voids i } in
+    record { answer = rw none zero; marks = rw none (u .marks); heights = rw none (u .heights) }
+
+-- and of an accepted one
+module _ (h : Handed) {r : Selected} {marks : List ℕ} {heights : List ℤ} (ok : refusal h ≡ accepted)
+    (s : Selection (h .m) (h .survey) (over (h .m) (h .survey) (h .tolerance)) r marks heights) where
+  mark-is : (p : Point) → Inside (h .m) p → markAt (h .m) marks p ≡ mark (h .m) (h .survey) (isOver h) p
+  unfolding mark
+  mark-is p k =
+      let m = h .m in
+      let own : markedOwn (markAt m marks p) ≡ isOver h p =
+      same-test _ _ (λ e. s .ownMarks p k .0 (eqb-true _ forError e), λ e. eq-eqb _ forError (s .ownMarks p k .1 e)) in
+      let keeps : keptMark (markAt m marks p) ≡ kept m (isOver h) p =
+      same-test _ _ (least-only m (isOver h) _ _ (s .least) (kept-least m (isOver h)) p k) in
+      good-told (isCorner m p) (markAt m marks p) (s .good p k)
+      ∙ (λ i. cond (isCorner m p) forCorner (markBy (s .voidMarks p k i) (own i) (keeps i)))
+
+  marks-by : marks ≡ marksBy h
+  unfolding marksOf
+  marks-by =
+      is-onGrid (h .m) (mark (h .m) (h .survey) (isOver h)) leftOut marks (s .long)
+      (λ i l. ap (λ (n : ℕ). getD marks n leftOut) (sym (place-point (h .m) i)) ∙ mark-is (point (h .m) i) (point-inside (h .m) i l))
+
+  answer-by : r .refusal ≡ accepted → r ≡ answered h
+  answer-by e =
+      λ i.
+      record {
+        refusal = e i;
+        own = (s .ownCount ∙ ap (count markedOwn) marks-by) i;
+        dependent = (s .dependentCount ∙ ap (count markedDependence) marks-by) i;
+        voids = s .voidCount i;
+      }
+
+pub selection-only : (h : Handed) {r : Selected} {marks : List ℕ} {heights : List ℤ} → Turned h (r .refusal) → r .refusal ≡ accepted →
+    Selection (h .m) (h .survey) (over (h .m) (h .survey) (h .tolerance)) r marks heights → Selects h r marks heights
+selection-only h t e s =
+    let ok = sym (turned-only h t) ∙ e in
+    record {
+      answer = answer-by h ok s e ∙ sym (answer-is h ok);
+      marks = marks-by h ok s ∙ sym (marks-are h ok);
+      heights = fills-only (h .m) (h .survey) (accepted-handed h ok .corners) _ (s .fills) ∙ sym (heights-are h ok);
+    }

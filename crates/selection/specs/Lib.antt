@@ -1,0 +1,6 @@
+pub mod Error
+pub mod Kept
+pub mod Marks
+pub mod Selected
+pub mod Rule
+pub mod Inner
