@@ -13,8 +13,8 @@ use Rattle.grid.specs.Points.{isCorner, ends}
 use Rattle.grid.specs.Mark.{forCorner, goodMark, keptMark, filledMark}
 use Rattle.grid.specs.declared.points.Point.{Point}
 use Rattle.grid.proofs.Parity.{kind-corner}
-use Rattle.survey.specs.Filled.{sample, heightOf, CornersSurveyed}
-use Rattle.selection.specs.Error.{doubledError, ownDoubledError, exceeding}
+use Rattle.survey.specs.Filled.{sample, filled, CornersSurveyed}
+use Rattle.selection.specs.Error.{doubledError, errorBy, exceeding}
 use Rattle.selection.specs.Kept.{kept}
 use Rattle.selection.specs.Marks.{markBy, mark, markedOwn, markedDependence}
 use Rattle.selection.specs.Inner.{keeps}
@@ -127,7 +127,7 @@ no-error h =
 
 module _ (m : ℕ) (survey : List ℤ) (limit : ℕ) where
   pub own-surveyed : OwnSurveyed m survey (exceeding m survey limit)
-  unfolding exceeding ownDoubledError
+  unfolding exceeding errorBy
   own-surveyed p e = go (isVoid (sample m survey p)) _ e
     where
       go : (t : Bool) (n : ℕ) → ltb limit (cond t 0 n) ≡ true → t ≡ false
@@ -135,8 +135,8 @@ module _ (m : ℕ) (survey : List ℤ) (limit : ℕ) where
       go false n e = refl
 
   pub corners-within : CornersWithin m (exceeding m survey limit)
-  unfolding exceeding ownDoubledError ends
-  corners-within p e = rw (kind-corner m p e, no-error (heightOf m survey p)) (go (isVoid (sample m survey p)))
+  unfolding exceeding errorBy ends
+  corners-within p e = rw (kind-corner m p e, no-error (sample m (filled m survey) p)) (go (isVoid (sample m survey p)))
     where
       go : (t : Bool) → ltb limit (cond t 0 0) ≡ false
       go true = le-ltb limit 0 (omega arith)

@@ -11,7 +11,7 @@ use lib.ListN.{getD}
 use lib.IntN.{ℤ}
 use borrow.Author.Tests.{eq-eqb, ne-eqb, eqb-true, ltb-true, lt-ltb}
 use Rattle.grid.specs.Grid.{Inside, point, isVoid}
-use Rattle.grid.specs.Points.{isCorner, ends}
+use Rattle.grid.specs.Points.{isCorner}
 use Rattle.grid.specs.Mark.{leftOut, forError, forCorner, goodMark, keptMark, filledMark}
 use Rattle.grid.specs.Refusal.{accepted}
 use Rattle.grid.specs.declared.points.Point.{Point}
@@ -20,13 +20,12 @@ use Rattle.grid.proofs.OnGrid.{onGrid-point, is-onGrid}
 use Rattle.grid.proofs.Places.{place-point, point-inside}
 use Rattle.grid.proofs.Spaced.{corner-inside}
 use Rattle.survey.specs.Filled.{filled}
-use Rattle.survey.proofs.Filling.{ends-up}
-use Rattle.survey.proofs.Rule.{filled-sample, filled-fills, fills-only}
-use Rattle.selection.specs.Error.{ownDoubledError, exceeding, over}
+use Rattle.survey.proofs.Rule.{filled-fills, fills-only}
+use Rattle.selection.specs.Error.{exceeding, over}
 use Rattle.selection.specs.Kept.{kept}
 use Rattle.selection.specs.Marks.{markBy, mark, marksOf, count, markedOwn, markedDependence}
 use Rattle.selection.specs.Selected.{Handed, refusal, marksBy, answerOf, marksAfter, heightsAfter, Selects}
-use Rattle.selection.specs.Rule.{Least, Turned, Untouched, markAt, Selection, errorBy, Told}
+use Rattle.selection.specs.Rule.{Least, Turned, Untouched, markAt, Selection, Told}
 use Rattle.selection.specs.declared.Selected.{Selected}
 use Rattle.selection.proofs.Least.{kept-least, least-only}
 use Rattle.selection.proofs.Marked.{kept-mark, good-mark, mark-own, mark-dependent, void-mark, own-surveyed, corners-within}
@@ -112,22 +111,12 @@ module _ (h : Handed) where
           voidCount = refl;
         }
 
-    error-is : (p : Point) → Inside (h .m) p → ownDoubledError (h .m) (h .survey) p ≡ errorBy (h .m) (h .survey) heightsBy p
-    unfolding ownDoubledError
-    error-is p k =
-        let u = ends-up (h .m) p k in
-        rw (
-          filled-sample (h .m) (h .survey) p k,
-          filled-sample (h .m) (h .survey) (ends (h .m) p .first) (u .0 .inside),
-          filled-sample (h .m) (h .survey) (ends (h .m) p .second) (u .1 .inside),
-        )
-
     told-of : Told (h .m) (h .tolerance) (h .survey) isOver answered (marksBy h) heightsBy
     unfolding exceeding
     told-of =
         let a = accepted-handed h ok in
         record {
-          exceeds = λ p k. rw (← error-is p k) (ltb-true (2 * h .tolerance) _, lt-ltb (2 * h .tolerance) _);
+          exceeds = λ p k. (ltb-true (2 * h .tolerance) _, lt-ltb (2 * h .tolerance) _);
           dependence = λ p k. rw (kept-at p k) (ap markedDependence (mark-at p k) ∙ mark-dependent (h .m) (h .survey) isOver p);
           voids = sym (count-voids (h .m) (h .survey) (a .lengths .survey) isOver (a .corners));
         }

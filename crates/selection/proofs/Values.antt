@@ -8,7 +8,7 @@ use lib.IntN.{ℤ, pos, negsuc}
 use Rattle.grid.specs.Grid.{void, place, point, onGrid}
 use Rattle.grid.specs.Points.{level, spacing, units, isCorner, kind, ends, dependents}
 use Rattle.survey.specs.Filled.{sample, heightBy, heightOf, filled}
-use Rattle.selection.specs.Error.{doubledError, ownDoubledError, exceeding}
+use Rattle.selection.specs.Error.{doubledError, errorBy, exceeding}
 use Rattle.selection.specs.Kept.{chain, kept}
 use Rattle.selection.specs.Marks.{mark, marksOf}
 use Rattle.selection.specs.Selected.{Handed, handed, cornerVoid, refusal, answerOf, marksAfter, heightsAfter}
@@ -51,7 +51,7 @@ pub example-marks : map marksAfter examples
     (3 ∷ 0 ∷ 3 ∷ 0 ∷ 4 ∷ 0 ∷ 3 ∷ 0 ∷ 3 ∷ []) ∷
     (3 ∷ 1 ∷ 2 ∷ 0 ∷ 3 ∷ 0 ∷ 2 ∷ 0 ∷ 0 ∷ 0 ∷ 2 ∷ 0 ∷ 2 ∷ 0 ∷ 0 ∷ 0 ∷ 0 ∷ 0 ∷ 0 ∷ 0 ∷ 3 ∷ 0 ∷ 0 ∷ 0 ∷ 3 ∷ []) ∷
     []
-unfolding marksAfter refusal cornerVoid marksOf mark kept chain exceeding ownDoubledError heightOf heightBy sample onGrid place point ends dependents kind units spacing level isCorner
+unfolding marksAfter refusal cornerVoid marksOf mark kept chain exceeding errorBy filled heightOf heightBy sample onGrid place point ends dependents kind units spacing level isCorner
 example-marks = refl
 
 pub example-heights : map heightsAfter examples ≡ p ∷ p ∷ q ∷ v (negsuc 3) ∷ v (negsuc 3) ∷ ten .survey ∷ []
@@ -59,7 +59,7 @@ unfolding heightsAfter refusal cornerVoid filled heightOf heightBy sample onGrid
 example-heights = refl
 
 pub example-answers : map answerOf examples ≡ answer 0 1 0 0 ∷ answer 0 0 0 0 ∷ answer 0 1 1 0 ∷ answer 0 4 1 1 ∷ answer 0 0 0 1 ∷ answer 0 1 4 0 ∷ []
-unfolding answerOf refusal cornerVoid marksOf mark kept chain exceeding ownDoubledError heightOf heightBy sample onGrid place point ends dependents kind units spacing level isCorner
+unfolding answerOf refusal cornerVoid marksOf mark kept chain exceeding errorBy filled heightOf heightBy sample onGrid place point ends dependents kind units spacing level isCorner
 example-answers = refl
 
 -- each refusal, and of two the first in the order 1, 2, 4, 3: a size that is none, a buffer too long or too short, a tolerance above

@@ -1,19 +1,19 @@
 -- Document 01's sentences about selection, as records: what the promise is proved to mean. Definitions only.
 use mathlib.Core.Path.{_≡_}
-use mathlib.Core.Bool.{Bool, true, cond, not, _&&_}
+use mathlib.Core.Bool.{Bool, true, not, _&&_}
 use mathlib.Core.List.{List, List·Memᴰ}
 use mathlib.Core.Logic.{_↔_}
 use Prim.Native.Nat.{ℕ, _*_, _≤_, _<_}
 use lib.ListN.{length, getD}
 use lib.IntN.{ℤ}
 use Rattle.grid.specs.Grid.{Inside, largest, samples, isVoid, place}
-use Rattle.grid.specs.Points.{isCorner, ends, dependsOn}
+use Rattle.grid.specs.Points.{isCorner, dependsOn}
 use Rattle.grid.specs.Mark.{leftOut, forError, goodMark, keptMark, filledMark}
 use Rattle.grid.specs.Refusal.{accepted, sizeAbove, wrongLength, voidCorner, toleranceAbove}
 use Rattle.grid.specs.declared.points.Point.{Point}
 use Rattle.survey.specs.Filled.{sample, CornersSurveyed}
 use Rattle.survey.specs.Rule.{Fills}
-use Rattle.selection.specs.Error.{doubledError}
+use Rattle.selection.specs.Error.{errorBy}
 use Rattle.selection.specs.Marks.{count, markedOwn, markedDependence}
 use Rattle.selection.specs.Selected.{highestTolerance, Handed}
 use Rattle.selection.specs.declared.Selected.{Selected}
@@ -77,12 +77,6 @@ pub record Selection (m : ℕ) (survey : List ℤ) (over : Point → Bool) (r : 
   pub ownCount : r .own ≡ count markedOwn marks
   pub dependentCount : r .dependent ≡ count markedDependence marks
   pub voidCount : r .voids ≡ count isVoid survey
-
--- a point's own doubled error by the heights written: |2h - (sum of its ends' heights)|, and 0 for a void
-abbrev pub errorBy : ℕ → List ℤ → List ℤ → Point → ℕ
-errorBy m survey heights p =
-    cond (isVoid (sample m survey p)) 0
-    (doubledError (sample m heights p) (sample m heights (ends m p .first)) (sample m heights (ends m p .second)))
 
 -- what a reader may rely on besides: a point is over tolerance t when its own doubled error, by the heights written, exceeds 2t;
 -- 2 and 6 stand at the points kept only for dependence; the voids are as many as the marks of 4 or more

@@ -66,7 +66,7 @@ module _ {g : Grid} {survey heights : List ℤ} {p : Point} {d i : ℕ} (ready :
       let a = read heights long (inside .0) first-is fa in
       let b = read heights long (inside .1) second-is fb in
       (λ j. ltb limit (doubledError (h j) (a j) (b j)))
-      ∙ exceeding-filled (g .m) survey limit p (spread .inside) (spread .inner) (ready .filled) n
+      ∙ exceeding-filled (g .m) survey limit p (ready .filled) n
 
 abbrev claims : lts.Claims
 claims = (place-reads.Asked, place-reads.Learnt, is-void-reads.Asked, is-void-reads.Learnt, exceeds-reads.Asked, exceeds-reads.Learnt)
