@@ -61,13 +61,13 @@ module _ {m s : ℕ} {p : Point} {first : Kind} (start : Sited m p first s) wher
           inside = record { east = l; north = start .inside .north };
         }
 
-    pub rank-here : east ≤ side m → rank m (at east (p .y)) ≡ rank m p
+    rank-here : east ≤ side m → rank m (at east (p .y)) ≡ rank m p
     rank-here l = rank-alike (there l) origin (now .alike) refl
 
     pub sited-here : east ≤ side m → Sited m (at east (p .y)) k s
     sited-here l = sited (there l) unit (now .way)
 
-    pub dependents-final : east ≤ side m → Final m f (λ q. List·Memᴰ q (dependents m (at east (p .y)))) marks
+    dependents-final : east ≤ side m → Final m f (λ q. List·Memᴰ q (dependents m (at east (p .y)))) marks
     dependents-final l =
         let t = there l in
         final-at (now .final) (λ q h i. let b = dependent-below m (at east (p .y)) q (t .inside) (inner t) i in finer (omega (arith, b .2, rank-here l)))

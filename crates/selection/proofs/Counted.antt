@@ -26,7 +26,7 @@ module _ {A B : Type 0} (f : A → Bool) (g : B → Bool) where
   count-entries a b i (suc n) same = λ j. cond (same i j) 1 0 + count-entries a b (suc i) n same j
 
   -- tests that agree at every point count alike
-  pub count-onGrid : (m : ℕ) (a : Point → A) (b : Point → B) → ((p : Point) → f (a p) ≡ g (b p)) → count f (onGrid m a) ≡ count g (onGrid m b)
+  count-onGrid : (m : ℕ) (a : Point → A) (b : Point → B) → ((p : Point) → f (a p) ≡ g (b p)) → count f (onGrid m a) ≡ count g (onGrid m b)
   unfolding onGrid
   count-onGrid m a b same = count-entries (λ i. a (point m i)) (λ i. b (point m i)) 0 (samples m) (λ i. same (point m i))
 
@@ -37,7 +37,7 @@ marks-long m survey over = length-onGrid m (mark m survey over)
 
 module _ (m : ℕ) (survey : List ℤ) (long : length survey ≡ samples m) where
   -- a survey has one sample for each point
-  pub survey-onGrid : survey ≡ onGrid m (sample m survey)
+  survey-onGrid : survey ≡ onGrid m (sample m survey)
   survey-onGrid = is-onGrid m (sample m survey) void survey long (λ i _. sym (sample-place m survey i))
 
   pub count-voids : (over : Point → Bool) → CornersSurveyed m survey → count filledMark (marksOf m survey over) ≡ count isVoid survey

@@ -49,7 +49,7 @@ halves-alike a b oa ob t = by (ℕ-discrete (a / 2 % 2) (b / 2 % 2))
     by (no n) = let u = sum-unlike a b oa ob n in absurd (omega arith)
 
 module _ {m j a b : ℕ} {p : Point} (f : Placed m j a b p) where
-  pub way-kind : {k : Kind} → Way a b k → kind m p ≡ k
+  way-kind : {k : Kind} → Way a b k → kind m p ≡ k
   way-kind (row oa eb) = kind-east-west m p (inner f) (rw (measured f .across) oa) (rw (measured f .up) eb)
   way-kind (column ea ob) = kind-north-south m p (inner f) (rw (measured f .across) ea)
   way-kind (rise oa ob t) =

@@ -53,7 +53,6 @@ pub record CentreRows (m s : ℕ) (f : Point → ℕ) (marks : List ℕ) (y : �
   pub row : ℕ
   pub times : y ≡ s * row
   pub odd : row % 2 ≡ 1
-  pub near : y ≤ side m + s
   pub way : Way 1 row k
   pub final : Final m f (Swept m (centreRank m s) row 0) marks
 
@@ -115,16 +114,16 @@ module _ {m s : ℕ} (w : Power m s) where
           up = f .up;
         }
 
-  pub east-start : {b y : ℕ} → b % 2 ≡ 0 → y ≡ s * b → y ≤ side m → Start m s (edgeRank m s) b (at s y) EastWest
+  east-start : {b y : ℕ} → b % 2 ≡ 0 → y ≡ s * b → y ≤ side m → Start m s (edgeRank m s) b (at s y) EastWest
   east-start {b} e up l =
       starts (sym (mul-one s)) up (record { east = reaches; north = l }) (row refl e) (omega arith)
       (rw (even-false b e, levelled) (omega arith))
 
-  pub north-start : {b y : ℕ} → b % 2 ≡ 1 → y ≡ s * b → y ≤ side m → Start m s (edgeRank m s) b (at 0 y) NorthSouth
+  north-start : {b y : ℕ} → b % 2 ≡ 1 → y ≡ s * b → y ≤ side m → Start m s (edgeRank m s) b (at 0 y) NorthSouth
   north-start {b} o up l =
       starts (sym (mul-zero s)) up (record { east = omega arith; north = l }) (column refl o) (omega arith) (rw levelled (omega arith))
 
-  pub centre-start : {b y : ℕ} {k : Kind} → b % 2 ≡ 1 → Way 1 b k → y ≡ s * b → y ≤ side m → Start m s (centreRank m s) b (at s y) k
+  centre-start : {b y : ℕ} {k : Kind} → b % 2 ≡ 1 → Way 1 b k → y ≡ s * b → y ≤ side m → Start m s (centreRank m s) b (at s y) k
   centre-start {b} o way up l =
       starts (sym (mul-one s)) up (record { east = reaches; north = l }) way (omega arith) (rw (odd-true b o, levelled) (omega arith))
 
@@ -201,7 +200,6 @@ module _ {m s : ℕ} (w : Power m s) where
         row = 1;
         times = sym (mul-one s);
         odd = refl;
-        near = omega arith;
         way = rise refl refl refl;
         final = no-centre 0 refl final;
       }
@@ -225,16 +223,13 @@ module _ {m s : ℕ} (w : Power m s) where
     pub centre-here : y < side m → Start m s (centreRank m s) (here .row) (at s y) k
     centre-here l = centre-start (here .odd) (here .way) (here .times) (omega arith)
 
-    pub centre-on : {after : List ℕ} → y < side m → Final m f (Swept m (centreRank m s) (suc (here .row)) 0) after →
+    pub centre-on : {after : List ℕ} → Final m f (Swept m (centreRank m s) (suc (here .row)) 0) after →
         CentreRows m s f after (y + 2 * s) (nextKind k)
-    centre-on l final =
-        let b : here .row < 2 * half = below (here .times) l in
-        let far = up-to (suc (here .row)) (omega arith) in
+    centre-on final =
         record {
           row = suc (suc (here .row));
           times = two-on s (here .row) (here .times);
           odd = omega (arith, here .odd);
-          near = omega (arith, here .times, mul-suc s (here .row));
           way = next-north (here .way);
           final = no-centre (suc (here .row)) (omega (arith, here .odd)) final;
         }

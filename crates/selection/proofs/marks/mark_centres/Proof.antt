@@ -50,7 +50,7 @@ loop-again c =
     let s = c .before .before .before .before .before .before .before .before .before in
     let here = c .before .before .before .before .before .before .before .loop .inv in
     let l = rw (s .pre .0 .sound .sided) at (c .before .before .before .before .before .if1 .taken) in
-    rw (c .next .ensures) (centre-on (s .pre .1) here l (gives (centre-here (s .pre .1) here l) (c .before .before .before .mark-centre-row .ensures)))
+    rw (c .next .ensures) (centre-on (s .pre .1) here (gives (centre-here (s .pre .1) here l) (c .before .before .before .mark-centre-row .ensures)))
 
 same-length : tie.Need-same-length Inv-loop μ-loop
 same-length c = c .before .before .loop .inv .final .long ∙ sym (c .before .before .before .before .pre .2 .long)
