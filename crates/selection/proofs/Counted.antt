@@ -1,4 +1,4 @@
--- The marks of 4 or more are as many as the voids of the survey, so the answer of an accepted selection is counted from its marks.
+-- The marks of 4 or more are as many as the voids of the survey.
 -- A survey as long as the samples are many has one entry for each sample, as the marks have, and they agree at each.
 use mathlib.Core.Path.{_≡_, refl, sym, ap, _∙_}
 use mathlib.Core.Bool.{Bool, cond}
@@ -8,17 +8,13 @@ use lib.ListN.{length}
 use lib.IntN.{ℤ}
 use Rattle.grid.specs.Grid.{void, isVoid, samples, point, entries, onGrid}
 use Rattle.grid.specs.Mark.{filledMark}
-use Rattle.grid.specs.Refusal.{accepted}
 use Rattle.grid.specs.declared.points.Point.{Point}
 use Rattle.grid.proofs.OnGrid.{length-onGrid, is-onGrid}
 use Rattle.survey.specs.Filled.{sample, CornersSurveyed}
 use Rattle.survey.proofs.Sweep.{sample-place}
 use Rattle.selection.specs.Error.{over}
 use Rattle.selection.specs.Marks.{mark, marksOf, count}
-use Rattle.selection.specs.Selected.{Handed, refusal, marksBy, answerOf}
-use Rattle.selection.specs.Inner.{counted}
 use Rattle.selection.proofs.Marked.{void-mark}
-use Rattle.selection.proofs.Accepted.{accepted-handed}
 
 module _ {A B : Type 0} (f : A → Bool) (g : B → Bool) where
   count-entries : (a : ℕ → A) (b : ℕ → B) (i n : ℕ) → ((k : ℕ) → f (a k) ≡ g (b k)) → count f (entries a i n) ≡ count g (entries b i n)
@@ -45,9 +41,3 @@ module _ (m : ℕ) (survey : List ℤ) (long : length survey ≡ samples m) wher
   count-voids over surveyed =
       count-onGrid filledMark isVoid m (mark m survey over) (sample m survey) (void-mark m survey over surveyed)
       ∙ ap (count isVoid) (sym survey-onGrid)
-
-pub answer-counted : (h : Handed) → refusal h ≡ accepted → answerOf h ≡ counted (marksBy h)
-unfolding answerOf
-answer-counted h e =
-    let a = accepted-handed h e in
-    rw (e, ← count-voids (h .m) (h .survey) (a .lengths .survey) (over (h .m) (h .survey) (h .tolerance)) (a .corners))

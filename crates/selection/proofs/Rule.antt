@@ -5,12 +5,11 @@ use mathlib.Core.Bool.{Bool, true, false, cond, _||_}
 use mathlib.Core.List.{List}
 use mathlib.Core.Logic.{_↔_, _≢_}
 use Prim.Native.Nat.{ℕ, _*_}
-use native.Mathlib.Decide.{ℕ-discrete}
 use lib.Dec.{eqb}
 use lib.ListN.{getD}
 use lib.IntN.{ℤ}
-use borrow.Author.Tests.{eq-eqb, ne-eqb, eqb-true, ltb-true, lt-ltb}
-use Rattle.grid.specs.Grid.{Inside, point, isVoid}
+use borrow.Author.Tests.{eq-eqb, eqb-true, ltb-true, lt-ltb}
+use Rattle.grid.specs.Grid.{Inside, point}
 use Rattle.grid.specs.Points.{isCorner}
 use Rattle.grid.specs.Mark.{leftOut, forError, forCorner, goodMark, keptMark, filledMark}
 use Rattle.grid.specs.Refusal.{accepted}
@@ -23,14 +22,16 @@ use Rattle.survey.specs.Filled.{filled}
 use Rattle.survey.proofs.Rule.{filled-fills, fills-only}
 use Rattle.selection.specs.Error.{exceeding, over}
 use Rattle.selection.specs.Kept.{kept}
-use Rattle.selection.specs.Marks.{markBy, mark, marksOf, count, markedOwn, markedDependence}
-use Rattle.selection.specs.Selected.{Handed, refusal, marksBy, answerOf, marksAfter, heightsAfter, Selects}
-use Rattle.selection.specs.Rule.{Least, Turned, Untouched, markAt, Selection, Told}
+use Rattle.selection.specs.Marks.{markBy, mark, marksOf, markAt, count, markedOwn, markedDependence}
+use Rattle.selection.specs.Selected.{Handed, refusal, marksBy, Selects}
+use Rattle.selection.specs.Rule.{Least, Turned, Untouched, Selection, Told}
 use Rattle.selection.specs.declared.Selected.{Selected}
 use Rattle.selection.proofs.Least.{kept-least, least-only}
 use Rattle.selection.proofs.Marked.{kept-mark, good-mark, mark-own, mark-dependent, void-mark, own-surveyed, corners-within}
 use Rattle.selection.proofs.Accepted.{turned, turned-only, accepted-handed}
 use Rattle.selection.proofs.Counted.{marks-long, count-voids}
+use Rattle.selection.proofs.Answered.{taken, refused, answer-taken, marks-taken, heights-taken}
+use Rattle.selection.proofs.Answered.{answer-refused, marks-refused, heights-refused, answer-refusal}
 
 -- a set that has the same points of the square is least too
 least-alike : {m : ℕ} {over : Point → Bool} {set same : Point → Type 0} → ((p : Point) → Inside m p → set p ↔ same p) →
@@ -45,27 +46,9 @@ least-alike {m} alike l =
       least = λ other c o p h s. l .least other c o p h (alike p h .1 s);
     }
 
--- the answer carries the refusal number
-answer-refusal : (h : Handed) → answerOf h .refusal ≡ refusal h
-unfolding answerOf
-answer-refusal h = by (ℕ-discrete (refusal h) accepted)
-  where
-    by : Dec (refusal h ≡ accepted) → answerOf h .refusal ≡ refusal h
-    by (yes e) = rw e
-    by (no n) = rw (ne-eqb (refusal h) accepted n)
-
 module _ (h : Handed) where
   abbrev isOver : Point → Bool
   isOver = over (h .m) (h .survey) (h .tolerance)
-
-  -- what an accepted call answers
-  abbrev answered : Selected
-  answered = record {
-    refusal = accepted;
-    own = count markedOwn (marksBy h);
-    dependent = count markedDependence (marksBy h);
-    voids = count isVoid (h .survey);
-  }
 
   abbrev heightsBy : List ℤ
   heightsBy = filled (h .m) (h .survey)
@@ -76,18 +59,6 @@ module _ (h : Handed) where
   mark-at p k = onGrid-point (h .m) (mark (h .m) (h .survey) isOver) leftOut p k
 
   module _ (ok : refusal h ≡ accepted) where
-    answer-is : answerOf h ≡ answered
-    unfolding answerOf
-    answer-is = rw ok
-
-    marks-are : marksAfter h ≡ marksBy h
-    unfolding marksAfter
-    marks-are = rw ok
-
-    heights-are : heightsAfter h ≡ heightsBy
-    unfolding heightsAfter
-    heights-are = rw ok
-
     kept-at : (p : Point) → Inside (h .m) p → keptMark (markAt (h .m) (marksBy h) p) ≡ kept (h .m) isOver p
     kept-at p k = ap keptMark (mark-at p k) ∙ kept-mark (h .m) (h .survey) isOver (own-surveyed (h .m) (h .survey) (2 * h .tolerance)) p k
 
@@ -97,7 +68,7 @@ module _ (h : Handed) where
         ap markedOwn (mark-at p k)
         ∙ mark-own (h .m) (h .survey) isOver (own-surveyed (h .m) (h .survey) limit) (corners-within (h .m) (h .survey) limit) p
 
-    selection-of : Selection (h .m) (h .survey) isOver answered (marksBy h) heightsBy
+    selection-of : Selection (h .m) (h .survey) isOver (taken h) (marksBy h) heightsBy
     selection-of =
         record {
           long = marks-long (h .m) (h .survey) isOver;
@@ -111,7 +82,7 @@ module _ (h : Handed) where
           voidCount = refl;
         }
 
-    told-of : Told (h .m) (h .tolerance) (h .survey) isOver answered (marksBy h) heightsBy
+    told-of : Told (h .m) (h .tolerance) (h .survey) isOver (taken h) (marksBy h) heightsBy
     unfolding exceeding
     told-of =
         let a = accepted-handed h ok in
@@ -131,28 +102,27 @@ module _ {h : Handed} {r : Selected} {marks : List ℕ} {heights : List ℤ} (s 
 
   -- refused: nothing but the number
   pub untouched : r .refusal ≢ accepted → Untouched h r marks heights
-  unfolding answerOf marksAfter heightsAfter
   untouched n =
-      let none = ne-eqb (refusal h) accepted (λ e. n (number ∙ e)) in
-      let zero : r ≡ record { refusal = refusal h; own = 0; dependent = 0; voids = 0 } = s .answer ∙ rw none in
+      let no : refusal h ≢ accepted = λ e. n (number ∙ e) in
+      let zero : r ≡ refused h = s .answer ∙ answer-refused h no in
       record {
         own = ap (λ (a : Selected). a .own) zero;
         dependent = ap (λ (a : Selected). a .dependent) zero;
         voids = ap (λ (a : Selected). a .voids) zero;
-        marks = s .marks ∙ rw none;
-        heights = s .heights ∙ rw none;
+        marks = s .marks ∙ marks-refused h no;
+        heights = s .heights ∙ heights-refused h no;
       }
 
   -- accepted: the document's sentences, and what follows for a reader
   pub selection : r .refusal ≡ accepted → Selection (h .m) (h .survey) (over (h .m) (h .survey) (h .tolerance)) r marks heights
   selection e =
       let ok = sym number ∙ e in
-      rw (s .answer ∙ answer-is h ok, s .marks ∙ marks-are h ok, s .heights ∙ heights-are h ok) (selection-of h ok)
+      rw (s .answer ∙ answer-taken h ok, s .marks ∙ marks-taken h ok, s .heights ∙ heights-taken h ok) (selection-of h ok)
 
   pub told : r .refusal ≡ accepted → Told (h .m) (h .tolerance) (h .survey) (over (h .m) (h .survey) (h .tolerance)) r marks heights
   told e =
       let ok = sym number ∙ e in
-      rw (s .answer ∙ answer-is h ok, s .marks ∙ marks-are h ok, s .heights ∙ heights-are h ok) (told-of h ok)
+      rw (s .answer ∙ answer-taken h ok, s .marks ∙ marks-taken h ok, s .heights ∙ heights-taken h ok) (told-of h ok)
 
 -- two tests that hold alike are the same
 same-test : (a b : Bool) → (a ≡ true) ↔ (b ≡ true) → a ≡ b
@@ -182,13 +152,15 @@ good-told false k e =
 -- whatever follows the document's sentences meets the promise: of a refused call
 pub refused-only : (h : Handed) {r : Selected} {marks : List ℕ} {heights : List ℤ} → Turned h (r .refusal) → r .refusal ≢ accepted →
     Untouched h r marks heights → Selects h r marks heights
-unfolding answerOf marksAfter heightsAfter
 refused-only h {r} t n u =
     let e : r .refusal ≡ refusal h = turned-only h t in
-    let none = ne-eqb (refusal h) accepted (λ k. n (e ∙ k)) in
-    let zero : r ≡ record { refusal = refusal h; own = 0; dependent = 0; voids = 0 } =
-    λ i. record { refusal = e i; own = u .own i; dependent = u .dependent i; voids = u .voids i } in
-    record { answer = rw none zero; marks = rw none (u .marks); heights = rw none (u .heights) }
+    let no : refusal h ≢ accepted = λ k. n (e ∙ k) in
+    let zero : r ≡ refused h = λ i. record { refusal = e i; own = u .own i; dependent = u .dependent i; voids = u .voids i } in
+    record {
+      answer = zero ∙ sym (answer-refused h no);
+      marks = u .marks ∙ sym (marks-refused h no);
+      heights = u .heights ∙ sym (heights-refused h no);
+    }
 
 -- and of an accepted one
 module _ (h : Handed) {r : Selected} {marks : List ℕ} {heights : List ℤ} (ok : refusal h ≡ accepted)
@@ -210,7 +182,7 @@ module _ (h : Handed) {r : Selected} {marks : List ℕ} {heights : List ℤ} (ok
       is-onGrid (h .m) (mark (h .m) (h .survey) (isOver h)) leftOut marks (s .long)
       (λ i l. ap (λ (n : ℕ). getD marks n leftOut) (sym (place-point (h .m) i)) ∙ mark-is (point (h .m) i) (point-inside (h .m) i l))
 
-  answer-by : r .refusal ≡ accepted → r ≡ answered h
+  answer-by : r .refusal ≡ accepted → r ≡ taken h
   answer-by e =
       λ i.
       record {
@@ -225,7 +197,7 @@ pub selection-only : (h : Handed) {r : Selected} {marks : List ℕ} {heights : L
 selection-only h t e s =
     let ok = sym (turned-only h t) ∙ e in
     record {
-      answer = answer-by h ok s e ∙ sym (answer-is h ok);
-      marks = marks-by h ok s ∙ sym (marks-are h ok);
-      heights = fills-only (h .m) (h .survey) (accepted-handed h ok .corners) _ (s .fills) ∙ sym (heights-are h ok);
+      answer = answer-by h ok s e ∙ sym (answer-taken h ok);
+      marks = marks-by h ok s ∙ sym (marks-taken h ok);
+      heights = fills-only (h .m) (h .survey) (accepted-handed h ok .corners) _ (s .fills) ∙ sym (heights-taken h ok);
     }

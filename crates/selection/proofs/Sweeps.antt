@@ -15,13 +15,13 @@ use Rattle.grid.specs.Points.{level, units, rank, odd, centreBit}
 use Rattle.grid.specs.declared.points.Point.{Point}
 use Rattle.grid.specs.declared.points.Kind.{Kind}
 use Rattle.grid.specs.declared.points.Kind.the-variants.{EastWest, NorthSouth, Rising}
-use Rattle.grid.proofs.Places.{side-small}
 use Rattle.grid.proofs.Around.{Way, row, column, rise}
 use Rattle.grid.proofs.Parity.{odd-true, even-false}
 use Rattle.grid.proofs.Placed.{Placed, measured, lattice}
 use Rattle.selection.specs.Inner.{Sited, Ready, Final, Power, Swept, edgeRank, centreRank, nextKind}
 use Rattle.selection.proofs.Final.{final-at}
 use Rattle.selection.proofs.Swept.{passed, skipped}
+use Rattle.selection.proofs.Sited.{sited-small}
 use Rattle.selection.proofs.Rows.{way-odd, sited, next-north}
 
 -- the row b of rank r begins at p
@@ -67,10 +67,6 @@ module _ {m s : ℕ} (w : Power m s) where
   reaches : s ≤ side m
   reaches = rw (w .power) (pow-mono (omega (arith, w .below)))
 
-  -- from 1 to the largest N
-  pub spacing-small : m ≤ largest → (0 < s) × (s ≤ widest)
-  spacing-small l = (rw (w .power) (pow-pos (w .exponent)), omega (arith, reaches, side-small l))
-
   -- its first centre
   middle : Placed m (w .exponent) 1 1 (at s s)
   middle =
@@ -81,6 +77,9 @@ module _ {m s : ℕ} (w : Power m s) where
         odd = inl refl;
         inside = record { east = reaches; north = reaches };
       }
+
+  pub spacing-small : m ≤ largest → (0 < s) × (s ≤ widest)
+  spacing-small l = sited-small (sited middle (w .power) (rise refl refl refl)) l
 
   pub levelled : level m s s ≡ w .exponent
   levelled = measured middle .levelled

@@ -5,9 +5,9 @@ use mathlib.Core.List.{List}
 use mathlib.Core.Logic.{_⊎_}
 use Prim.Native.Nat.{ℕ, suc, _+_, _-_, _*_, _^_, _%_, _≤_, _<_}
 use lib.Dec.{eqb}
-use lib.ListN.{getD, length}
+use lib.ListN.{length}
 use lib.IntN.{ℤ}
-use Rattle.grid.specs.Grid.{Sound, Inside, samples, side, place}
+use Rattle.grid.specs.Grid.{Sound, Inside, samples, side}
 use Rattle.grid.specs.Points.{isCorner, kind, spacing, units, rank, level}
 use Rattle.grid.specs.Mark.{ifVoid, filledMark}
 use Rattle.grid.specs.Refusal.{accepted}
@@ -17,7 +17,7 @@ use Rattle.grid.specs.declared.points.Kind.{Kind}
 use Rattle.grid.specs.declared.points.Kind.the-variants.{Corner, EastWest, NorthSouth, Rising, Falling}
 use Rattle.survey.specs.Filled.{filled}
 use Rattle.selection.specs.Error.{exceeding}
-use Rattle.selection.specs.Marks.{mark, count, markedOwn, markedDependence}
+use Rattle.selection.specs.Marks.{mark, markAt, count, markedOwn, markedDependence}
 use Rattle.selection.specs.declared.Selected.{Selected}
 use Rattle.selection.specs.declared.marks.Sweep.{Sweep}
 
@@ -27,7 +27,7 @@ keeps mark = not (eqb (mark % ifVoid) 0)
 
 -- whether the mark that stands at a point keeps it
 abbrev pub keptAt : ℕ → List ℕ → Point → Bool
-keptAt m marks p = keeps (getD marks (place m p) 0)
+keptAt m marks p = keeps (markAt m marks p)
 
 -- s reaches back and on, both ways
 pub record Clear (m s x y : ℕ) : Type 0 where
@@ -77,7 +77,7 @@ markOver m survey limit = mark m survey (exceeding m survey limit)
 -- the marks that stand at some points are theirs
 pub record Final (m : ℕ) (f : Point → ℕ) (done : Point → Type 0) (marks : List ℕ) : Type 0 where
   pub long : length marks ≡ samples m
-  pub right : (p : Point) → Inside m p → done p → getD marks (place m p) 0 ≡ f p
+  pub right : (p : Point) → Inside m p → done p → markAt m marks p ≡ f p
 
 -- s is a power of two below N
 pub record Power (m s : ℕ) : Type 0 where

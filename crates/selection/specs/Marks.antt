@@ -3,8 +3,9 @@ use mathlib.Core.Bool.{Bool, cond, _||_}
 use mathlib.Core.List.{List, [], _∷_}
 use Prim.Native.Nat.{ℕ, _+_}
 use lib.Dec.{eqb}
+use lib.ListN.{getD}
 use lib.IntN.{ℤ}
-use Rattle.grid.specs.Grid.{isVoid, onGrid}
+use Rattle.grid.specs.Grid.{isVoid, place, onGrid}
 use Rattle.grid.specs.Points.{isCorner}
 use Rattle.grid.specs.Mark.{leftOut, forError, forDependence, forCorner, ifVoid, voidKept}
 use Rattle.grid.specs.declared.points.Point.{Point}
@@ -23,6 +24,10 @@ mark m survey over p = cond (isCorner m p) forCorner (markBy (isVoid (sample m s
 -- one mark for each sample
 unfoldable pub marksOf : ℕ → List ℤ → (Point → Bool) → List ℕ
 marksOf m survey over = onGrid m (mark m survey over)
+
+-- the mark that stands at a point, in a list of marks (left out beyond it)
+abbrev pub markAt : ℕ → List ℕ → Point → ℕ
+markAt m marks p = getD marks (place m p) leftOut
 
 -- of how many members of a list f holds
 abbrev pub count : {A : Type 0} → (A → Bool) → List A → ℕ

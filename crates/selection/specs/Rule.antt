@@ -4,17 +4,17 @@ use mathlib.Core.Bool.{Bool, true, not, _&&_}
 use mathlib.Core.List.{List, List·Memᴰ}
 use mathlib.Core.Logic.{_↔_}
 use Prim.Native.Nat.{ℕ, _*_, _≤_, _<_}
-use lib.ListN.{length, getD}
+use lib.ListN.{length}
 use lib.IntN.{ℤ}
-use Rattle.grid.specs.Grid.{Inside, largest, samples, isVoid, place}
+use Rattle.grid.specs.Grid.{Inside, largest, samples, isVoid}
 use Rattle.grid.specs.Points.{isCorner, dependsOn}
-use Rattle.grid.specs.Mark.{leftOut, forError, goodMark, keptMark, filledMark}
+use Rattle.grid.specs.Mark.{forError, goodMark, keptMark, filledMark}
 use Rattle.grid.specs.Refusal.{accepted, sizeAbove, wrongLength, voidCorner, toleranceAbove}
 use Rattle.grid.specs.declared.points.Point.{Point}
 use Rattle.survey.specs.Filled.{sample, CornersSurveyed}
 use Rattle.survey.specs.Rule.{Fills}
 use Rattle.selection.specs.Error.{errorBy}
-use Rattle.selection.specs.Marks.{count, markedOwn, markedDependence}
+use Rattle.selection.specs.Marks.{markAt, count, markedOwn, markedDependence}
 use Rattle.selection.specs.Selected.{highestTolerance, Handed}
 use Rattle.selection.specs.declared.Selected.{Selected}
 
@@ -54,10 +54,6 @@ pub record Untouched (h : Handed) (r : Selected) (marks′ : List ℕ) (heights�
   pub voids : r .voids ≡ 0
   pub marks : marks′ ≡ h .marks
   pub heights : heights′ ≡ h .heights
-
--- the mark that stands at a point
-abbrev pub markAt : ℕ → List ℕ → Point → ℕ
-markAt m marks p = getD marks (place m p) leftOut
 
 -- what an accepted selection, of size m, of this survey, by this test of what is over tolerance, answered and wrote
 pub record Selection (m : ℕ) (survey : List ℤ) (over : Point → Bool) (r : Selected) (marks : List ℕ) (heights : List ℤ) : Type 1 where

@@ -6,9 +6,10 @@ use borrow.Author.Needs.{needs}
 use Rattle.grid.proofs.Places.{sound, samples-small}
 use Rattle.grid.specs.Refusal.{accepted}
 use Rattle.selection.specs.Selected.{Handed, handed, refusal}
-use Rattle.selection.proofs.Accepted.{Accepted, accepted-handed}
+use Rattle.selection.proofs.Accepted.{Accepted, turned, accepted-handed}
 use Rattle.selection.proofs.Counted.{marks-long}
-use Rattle.selection.proofs.Answered.{refused, answered}
+use Rattle.selection.proofs.Answered.{completed}
+use Rattle.selection.proofs.Rule.{refused-only}
 use Rattle.selection.proofs.select.Statement.{statement}
 use Rattle.selection.proofs.select.Tie as tie
 use Rattle.selection.proofs.select.Reads as reads
@@ -61,7 +62,10 @@ same-length-2 : tie.Need-same-length-2
 same-length-2 c = search needs
 
 returns : tie.Need-returns
-returns c = refused (asked (c .before)) (c .before .refusal-of .ensures) (c .if1 .taken)
+returns c =
+    let h = asked (c .before) in
+    refused-only h (rw (c .before .refusal-of .ensures) (turned h)) (c .if1 .taken)
+    (record { own = refl; dependent = refl; voids = refl; marks = refl; heights = refl })
 
 grid-of-requires : tie.Need-grid-of-requires
 grid-of-requires c κs = taken c .small
@@ -98,7 +102,7 @@ returns-2 c =
     let g = c .before .before .before .before .before .before .before .before .before .before .grid-of .ensures in
     let marks = rw g at (c .before .before .before .before .mark-all .ensures) in
     let heights = rw g at (c .before .before .before .before .before .before .before .before .fill .ensures) in
-    answered (asked (passed .before)) (none passed) marks heights (c .count .ensures)
+    completed (asked (passed .before)) (none passed) marks heights (c .count .ensures)
 
 pub select-spec : {M : Type 1} → statement M
 select-spec =
