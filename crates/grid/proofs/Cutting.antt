@@ -8,9 +8,9 @@ use Prim.Native.Nat.{ℕ, zero, suc, _+_, _*_, _^_, _/_, _%_, _<_}
 use native.Mathlib.Nat.{mul-add, mul-left-comm, mul-zero, pow-suc}
 use native.Mathlib.Omega.{arith}
 use Rattle.grid.specs.Grid.{side, at, Inside, midpoint}
-use Rattle.grid.specs.Points.{units, isCorner, kind, spacing, both, ends, endsBy, pair, dependsOn, rank}
+use Rattle.grid.specs.Points.{isCorner, kind, spacing, both, ends, endsBy, pair, dependsOn, rank}
 use Rattle.grid.specs.Inner.{Back}
-use Rattle.grid.specs.Hierarchy.{Triangle, first, second, firstHalf, secondHalf}
+use Rattle.grid.specs.Hierarchy.{Triangle, first, second, firstHalf, secondHalf, Stage}
 use Rattle.grid.specs.declared.points.Point.{Point}
 use Rattle.grid.specs.declared.points.Kind.{Kind}
 use Rattle.grid.specs.declared.points.Kind.the-variants.{Corner, EastWest, NorthSouth, Rising, Falling}
@@ -271,21 +271,16 @@ corners-inside second = omega arith
 corners-inside (firstHalf t) = let c = cut t in record { left = c .corners .left; top = c .inside; right = c .corners .top }
 corners-inside (secondHalf t) = let c = cut t in record { left = c .corners .top; top = c .inside; right = c .corners .right }
 
--- the stages alternate: with an even number of cuts left a triangle is cut at a block centre, with an odd number at an edge
--- midpoint
-pub record Stage (m k : ℕ) (c : Point) : Type 0 where
-  pub atCentre : k % 2 ≡ 1 → (units m c .across % 2 ≡ 1) × (units m c .up % 2 ≡ 1)
-  pub atEdge : k % 2 ≡ 0 → (units m c .across + units m c .up) % 2 ≡ 1
-
+-- the stages alternate
 stage-by : {m k j a b : ℕ} {c : Point} → Placed m j a b c → rank m c ≡ k → Form a b → Stage m k c
 stage-by p r (edge o) =
     let f = measured p in
     let z = rank-edge f o in
-    record { atCentre = λ e. absurd (omega arith); atEdge = λ e. rw (f .across, f .up) o }
+    record { sample = p .inside; inner = inner p; atCentre = λ e. absurd (omega arith); atEdge = λ e. rw (f .across, f .up) o }
 stage-by p r (centre oa ob) =
     let f = measured p in
     let z = rank-centre f oa ob in
-    record { atCentre = λ e. rw (f .across, f .up) (oa, ob); atEdge = λ e. absurd (omega arith) }
+    record { sample = p .inside; inner = inner p; atCentre = λ e. rw (f .across, f .up) (oa, ob); atEdge = λ e. absurd (omega arith) }
 
 pub stage : {m k : ℕ} {l a r : Point} → Triangle m (suc k) l a r → Stage m k (midpoint l r)
 stage {m} {k} {l} {a} {r} t =

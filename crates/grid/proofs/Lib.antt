@@ -1,4 +1,5 @@
 pub mod Table
+pub mod Sized
 pub mod Level
 pub mod Heights
 pub mod Places
@@ -18,5 +19,6 @@ pub mod Dependence
 pub mod Cutting
 pub mod Rule
 pub mod Turning
+pub mod Numbers
 pub mod Values
 pub mod Order

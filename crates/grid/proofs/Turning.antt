@@ -15,11 +15,11 @@ use Rattle.grid.proofs.Cutting.{Halfway, Cut, cut}
 left-sum : (c u v w : ℕ) → 2 * c ≡ u + v → 2 * (c * w) ≡ u * w + v * w
 left-sum c u v w e = sym (mul-assoc 2 c w) ∙ ap (λ (n : ℕ). n * w) e ∙ add-mul u v w
 
-right-sum : (c u v w : ℕ) → 2 * c ≡ u + v → 2 * (w * c) ≡ w * u + w * v
+pub right-sum : (c u v w : ℕ) → 2 * c ≡ u + v → 2 * (w * c) ≡ w * u + w * v
 right-sum c u v w e = ap (λ (n : ℕ). 2 * n) (mul-comm w c) ∙ left-sum c u v w e ∙ (λ i. mul-comm u w i + mul-comm v w i)
 
 -- read backwards, a triangle turns the other way
-mirror : (p q w : Point) → (onward w q p ≡ backward p q w) × (backward w q p ≡ onward p q w)
+pub mirror : (p q w : Point) → (onward w q p ≡ backward p q w) × (backward w q p ≡ onward p q w)
 mirror p q w =
     omega (
       arith,
@@ -32,7 +32,7 @@ mirror p q w =
     )
 
 -- a half turns the other way, with half the doubled area
-first-half : (l a r c : Point) → Halfway c l r → 2 * onward l c a + onward l a r ≡ 2 * backward l c a + backward l a r
+pub first-half : (l a r c : Point) → Halfway c l r → 2 * onward l c a + onward l a r ≡ 2 * backward l c a + backward l a r
 first-half l a r c h =
     omega (
       arith,
@@ -65,14 +65,16 @@ half-turns k t e =
       odd = λ z. let o = t .even (omega arith) in omega arith;
     }
 
+pub square-side : (m : ℕ) → 2 ^ (2 * m) ≡ side m * side m
+square-side m = let d : 2 * m ≡ m + m = omega arith in ap (λ (k : ℕ). 2 ^ k) d ∙ pow-add 2 m m
+
 -- the square's two triangles have the doubled area N²
 whole-turns : (m : ℕ) {l a r : Point} → onward l a r ≡ side m * side m → backward l a r ≡ 0 → Turns (2 * m) l a r
 whole-turns m e f =
-    let n : 2 ^ (2 * m) ≡ side m * side m =
-    let d : 2 * m ≡ m + m = omega arith in ap (λ (k : ℕ). 2 ^ k) d ∙ pow-add 2 m m in
+    let n = square-side m in
     record { even = λ z. omega arith; odd = λ z. omega arith }
 
-halfway : {m k : ℕ} {l a r : Point} → Cut m k l a r → Halfway (midpoint l r) l r
+pub halfway : {m k : ℕ} {l a r : Point} → Cut m k l a r → Halfway (midpoint l r) l r
 halfway c = record { east = c .east; north = c .north }
 
 pub turns : {m k : ℕ} {l a r : Point} → Triangle m k l a r → Turns k l a r

@@ -27,10 +27,10 @@ corner-in m p e = let c = corner-at m p e in by (c .0) (c .1)
     by (inl a) (inr b) = List·Memᴰ·tail (List·Memᴰ·tail (List·Memᴰ·head (same-point a b)))
     by (inr a) (inr b) = List·Memᴰ·tail (List·Memᴰ·tail (List·Memᴰ·tail (List·Memᴰ·head (same-point a b))))
 
-at-east : (m : ℕ) → outermost m (side m) ≡ true
+pub at-east : (m : ℕ) → outermost m (side m) ≡ true
 at-east m = rw (eq-eqb (side m) (side m) refl) (or-true (eqb (side m) 0))
 
-listed-corner : (m : ℕ) (p : Point) → List·Memᴰ p (corners m) → isCorner m p ≡ true
+pub listed-corner : (m : ℕ) (p : Point) → List·Memᴰ p (corners m) → isCorner m p ≡ true
 unfolding isCorner
 listed-corner m p i =
     all (λ q. isCorner m q ≡ true) (corners m) (refl, (rw (at-east m), (rw (at-east m), (rw (at-east m), tt)))) i

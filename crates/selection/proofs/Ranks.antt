@@ -19,6 +19,21 @@ use Rattle.selection.specs.Inner.{Final, Power, Swept, corner, finer, ro
 use Rattle.selection.proofs.Final.{final-all}
 use Rattle.selection.proofs.Sweeps.{levelled}
 
+-- powers of two are in the order of their exponents
+pub exponent-below : {j m : ℕ} → 2 ^ j < 2 ^ m → j < m
+exponent-below {j} {m} l = by (decLt j m)
+  where
+    by : Dec (j < m) → j < m
+    by (yes d) = d
+    by (no d) = let far : 2 ^ m ≤ 2 ^ j = pow-mono (omega arith) in absurd (omega arith)
+
+pub exponent-most : {j m : ℕ} → 2 ^ m ≤ 2 ^ j → m ≤ j
+exponent-most {j} {m} l = by (decLt j m)
+  where
+    by : Dec (j < m) → m ≤ j
+    by (yes d) = let less : 2 ^ j < 2 ^ m = pow-lt d in absurd (omega arith)
+    by (no d) = omega arith
+
 -- s is a power of two up to N, and every rank of a lower spacing is final
 pub record Spacings (m : ℕ) (f : Point → ℕ) (marks : List ℕ) (s : ℕ) : Type 0 where
   pub exponent : ℕ
@@ -41,11 +56,7 @@ spacings-begin {m} survey over {marks} corners =
 
 module _ {m : ℕ} {f : Point → ℕ} {marks : List ℕ} {s : ℕ} (here : Spacings m f marks s) where
   pub spacing-below : s < side m → Power m s
-  spacing-below l = record { exponent = here .exponent; power = here .power; below = by (decLt (here .exponent) m) }
-    where
-      by : Dec (here .exponent < m) → here .exponent < m
-      by (yes d) = d
-      by (no d) = let far : 2 ^ m ≤ 2 ^ here .exponent = pow-mono (omega arith) in absurd (omega (arith, here .power))
+  spacing-below l = record { exponent = here .exponent; power = here .power; below = exponent-below (rw (here .power) at l) }
 
   module _ (l : s < side m) where
     pub edges-asked : Final m f (Swept m (edgeRank m s) 0 0) marks
@@ -66,10 +77,6 @@ module _ {m : ℕ} {f : Point → ℕ} {marks : List ℕ} {s : ℕ} (here : Spac
   pub spacings-end : side m ≤ s → marks ≡ onGrid m f
   spacings-end l = final-all (here .final) (λ p h. by p h (isCorner m p) refl)
     where
-      all : Dec (here .exponent < m) → m ≤ here .exponent
-      all (yes d) = let less : 2 ^ here .exponent < 2 ^ m = pow-lt d in absurd (omega (arith, here .power))
-      all (no d) = omega arith
-
       by : (p : Point) → Inside m p → (t : Bool) → isCorner m p ≡ t → Swept m (2 * here .exponent) 0 0 p
       by p h true e = corner e
-      by p h false e = finer (omega (arith, corner-rank m p h .1 e, all (decLt (here .exponent) m)))
+      by p h false e = finer (omega (arith, corner-rank m p h .1 e, exponent-most (rw (here .power) at l)))

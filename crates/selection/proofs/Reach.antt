@@ -24,16 +24,16 @@ module _ (m s x y : ℕ) where
   on : (y + s) * (side m + 1) ≡ y * (side m + 1) + s * (side m + 1)
   on = add-mul y s (side m + 1)
 
-  by : (k : Kind) → Reached k (side m) s x y → Between m (endsBy k s x y) (at x y) (reachBy k (side m) s)
+  pub between-by : (k : Kind) → Reached k (side m) s x y → Between m (endsBy k s x y) (at x y) (reachBy k (side m) s)
   unfolding place
-  by Corner r = record { before = omega arith; behind = omega arith }
-  by EastWest r = record { before = omega arith; behind = omega arith }
-  by NorthSouth r = record { before = omega (arith, back (r .0)); behind = omega (arith, on) }
-  by Rising r = record { before = omega (arith, back (r .1 .0)); behind = omega (arith, on) }
-  by Falling r =
+  between-by Corner r = record { before = omega arith; behind = omega arith }
+  between-by EastWest r = record { before = omega arith; behind = omega arith }
+  between-by NorthSouth r = record { before = omega (arith, back (r .0)); behind = omega (arith, on) }
+  between-by Rising r = record { before = omega (arith, back (r .1 .0)); behind = omega (arith, on) }
+  between-by Falling r =
       let wide : s ≤ s * (side m + 1) = le-mul-of-pos-right s (omega arith) in
       record { before = omega (arith, back (r .1 .0)); behind = omega (arith, on) }
 
 pub between : {m : ℕ} {p : Point} {d : ℕ} → Spread m p d → Between m (ends m p) p d
 unfolding ends
-between {m} {p} h = rw (h .reached) (by m (spacing m p) (p .x) (p .y) (kind m p) (room m p (h .inside)))
+between {m} {p} h = rw (h .reached) (between-by m (spacing m p) (p .x) (p .y) (kind m p) (room m p (h .inside)))

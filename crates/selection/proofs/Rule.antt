@@ -1,11 +1,10 @@
 -- What the promise of selection means, in the document's sentences, of any answer and buffers that meet it; and whatever follows
 -- those sentences meets the promise. So the sentences leave nothing open.
 use mathlib.Core.Path.{_≡_, refl, sym, ap, _∙_}
-use mathlib.Core.Bool.{Bool, true, false, cond, _||_}
+use mathlib.Core.Bool.{Bool, true, false, cond}
 use mathlib.Core.List.{List}
-use mathlib.Core.Logic.{_↔_, _≢_}
+use mathlib.Core.Logic.{⊎-elim, _↔_, _≢_}
 use Prim.Native.Nat.{ℕ, _*_}
-use lib.Dec.{eqb}
 use lib.ListN.{getD}
 use lib.IntN.{ℤ}
 use borrow.Author.Tests.{eq-eqb, eqb-true, ltb-true, lt-ltb}
@@ -15,6 +14,7 @@ use Rattle.grid.specs.Mark.{leftOut, forError, forCorner, goodMark, keptMark, f
 use Rattle.grid.specs.Refusal.{accepted}
 use Rattle.grid.specs.declared.points.Point.{Point}
 use Rattle.grid.proofs.Dependence.{depends-rank}
+use Rattle.grid.proofs.Numbers.{good-elsewhere}
 use Rattle.grid.proofs.OnGrid.{onGrid-point, is-onGrid}
 use Rattle.grid.proofs.Places.{place-point, point-inside}
 use Rattle.grid.proofs.Spaced.{corner-inside}
@@ -125,7 +125,7 @@ module _ {h : Handed} {r : Selected} {marks : List ℕ} {heights : List ℤ} (s 
       rw (s .answer ∙ answer-taken h ok, s .marks ∙ marks-taken h ok, s .heights ∙ heights-taken h ok) (told-of h ok)
 
 -- two tests that hold alike are the same
-same-test : (a b : Bool) → (a ≡ true) ↔ (b ≡ true) → a ≡ b
+pub same-test : (a b : Bool) → (a ≡ true) ↔ (b ≡ true) → a ≡ b
 same-test true b e = sym (e .0 refl)
 same-test false true e = e .1 refl
 same-test false false e = refl
@@ -138,16 +138,10 @@ alike k = markBy (filledMark k) (markedOwn k) (keptMark k)
 good-told : (corner : Bool) (k : ℕ) → goodMark corner k ≡ true → k ≡ cond corner forCorner (alike k)
 good-told true k e = eqb-true k forCorner e
 good-told false k e =
-    or (eqb k 0 || eqb k 1 || eqb k 2 || eqb k 4) 6 refl
-    (or (eqb k 0 || eqb k 1 || eqb k 2) 4 refl (or (eqb k 0 || eqb k 1) 2 refl (or (eqb k 0) 1 refl (is 0 refl))))
-    e
+    ⊎-elim (⊎-elim (⊎-elim (⊎-elim (is 0 refl) (is 1 refl)) (is 2 refl)) (is 4 refl)) (is 6 refl) (good-elsewhere k e)
   where
-    is : (n : ℕ) → n ≡ alike n → eqb k n ≡ true → k ≡ alike k
-    is n told e = rw (eqb-true k n e) told
-
-    or : (a : Bool) (n : ℕ) → n ≡ alike n → (a ≡ true → k ≡ alike k) → (a || eqb k n) ≡ true → k ≡ alike k
-    or true n told before e = before refl
-    or false n told before e = is n told e
+    is : (n : ℕ) → n ≡ alike n → k ≡ n → k ≡ alike k
+    is n told e = rw e told
 
 -- whatever follows the document's sentences meets the promise: of a refused call
 pub refused-only : (h : Handed) {r : Selected} {marks : List ℕ} {heights : List ℤ} → Turned h (r .refusal) → r .refusal ≢ accepted →

@@ -57,7 +57,7 @@ pub record CentreRows (m s : ℕ) (f : Point → ℕ) (marks : List ℕ) (y : �
   pub final : Final m f (Swept m (centreRank m s) row 0) marks
 
 -- two spacings on
-two-on : (s b : ℕ) {y : ℕ} → y ≡ s * b → y + 2 * s ≡ s * suc (suc b)
+pub two-on : (s b : ℕ) {y : ℕ} → y ≡ s * b → y + 2 * s ≡ s * suc (suc b)
 two-on s b e =
     let one : s * suc b ≡ s * b + s = mul-suc s b in
     let two : s * suc (suc b) ≡ s * suc b + s = mul-suc s (suc b) in
@@ -85,10 +85,10 @@ module _ {m s : ℕ} (w : Power m s) where
   levelled = measured middle .levelled
 
   -- the square is an even number of spacings wide
-  half : ℕ
+  pub half : ℕ
   half = lattice middle .half
 
-  wide : side m ≡ s * (2 * half)
+  pub wide : side m ≡ s * (2 * half)
   unfolding half
   wide = lattice middle .wide ∙ ap (λ (n : ℕ). n * (2 * lattice middle .half)) (sym (w .power))
 

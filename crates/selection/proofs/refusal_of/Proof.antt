@@ -1,20 +1,21 @@
 -- `selection::refusal_of` meets its contract: the cases are asked in the call's order, and the size that is accepted has the samples.
-use mathlib.Core.Path.{_≡_, refl, sym, ap, _∙_}
+use mathlib.Core.Path.{_≡_, sym, ap, _∙_}
 use mathlib.Core.Logic.{_≢_}
 use mathlib.Core.Bool.{Bool, true, false, cond, _&&_}
 use Prim.Native.Nat.{ℕ, _≤_, _<_}
 use native.Mathlib.Omega.{arith}
 use native.Mathlib.Decide.{decLe}
 use borrow.Author.Needs.{needs}
-use borrow.Author.Tests.{le-leb, lt-leb, le-ltb, lt-ltb}
+use borrow.Author.Tests.{le-ltb, lt-ltb}
 use lib.Dec.{T, eqb, eqb→eq}
 use lib.ListN.{length}
 use Rattle.grid.specs.Grid.{largest, samples, gridOf}
-use Rattle.grid.specs.Refusal.{accepted, sizeAbove, wrongLength, voidCorner, toleranceAbove}
+use Rattle.grid.specs.Refusal.{accepted, wrongLength, voidCorner, toleranceAbove}
 use Rattle.grid.specs.Sizes.{sizeAnswer}
 use Rattle.grid.specs.declared.Grid.{Grid}
 use Rattle.grid.specs.declared.sizes.SizeAnswer.{SizeAnswer}
 use Rattle.grid.proofs.Places.{sound}
+use Rattle.grid.proofs.Sized.{above, within, small}
 use Rattle.grid.proofs.Table.{both}
 use Rattle.selection.specs.Selected.{Handed, handed, highestTolerance, rightLengths, cornerVoid, refusal}
 use Rattle.selection.proofs.refusal_of.Statement.{statement}
@@ -27,20 +28,6 @@ use Rattle.selection.proofs.corner_void.Reads as corner-void-reads
 use Rattle.selection.proofs.right_lengths.Reads as right-lengths-reads
 
 -- a is what the code was told of the size
-module _ (m : ℕ) (a : SizeAnswer) (e : a ≡ sizeAnswer m) where
-  above : largest < m → a .refusal ≡ sizeAbove
-  above l = rw (e, lt-leb m largest l)
-
-  within : m ≤ largest → (a .refusal ≡ accepted) × (a .size .samples ≡ samples m)
-  within l = rw (e, le-leb m largest l) (refl, refl)
-
-  small : a .refusal ≡ accepted → m ≤ largest
-  small z = go (decLe m largest)
-    where
-      go : Dec (m ≤ largest) → m ≤ largest
-      go (yes l) = l
-      go (no l) = omega (arith, above (omega arith))
-
 module _ (h : Handed) (a : SizeAnswer) (e : a ≡ sizeAnswer (h .m)) where
   size-refused : a .refusal ≢ accepted → a .refusal ≡ refusal h
   unfolding refusal
