@@ -1,5 +1,6 @@
 -- A triangle of the hierarchy with k cuts left has the doubled area 2^k, and turns counter-clockwise, read l, a, r, where k is
--- even, and read r, a, l, where k is odd: each half has half the doubled area and turns the other way.
+-- even, and read r, a, l, where k is odd: each half has half the doubled area and turns the other way. At its apex two equal sides
+-- stand at a right angle, so the side l to r is the longest.
 use mathlib.Core.Path.{_≡_, sym, ap, _∙_}
 use Prim.Native.Nat.{ℕ, suc, _+_, _*_, _^_, _%_}
 use native.Mathlib.Nat.{pow-suc, mul-assoc, add-mul, mul-comm, mul-zero, zero-mul}
@@ -7,7 +8,7 @@ use native.Mathlib.Omega.{arith}
 use lib.Pow.{pow-add, pow-pos}
 use Rattle.grid.specs.Grid.{side, midpoint}
 use Rattle.grid.specs.Turn.{onward, backward, CounterClockwise}
-use Rattle.grid.specs.Hierarchy.{Triangle, first, second, firstHalf, secondHalf}
+use Rattle.grid.specs.Hierarchy.{Triangle, first, second, firstHalf, secondHalf, Apex}
 use Rattle.grid.specs.declared.points.Point.{Point}
 use Rattle.grid.proofs.Cutting.{Halfway, Cut, cut}
 
@@ -93,3 +94,16 @@ counter-clockwise {k = k} {l = l} {a = a} {r = r} t = (
   λ e. omega (arith, turns t .even e, pow-pos k),
   λ o. omega (arith, turns t .odd o, pow-pos k, mirror l a r),
 )
+
+-- the apex stands at equal sides and a right angle
+pub apex : {m k : ℕ} {l a r : Point} → Triangle m k l a r → Apex k l a r
+apex {m} first = record { even = λ e. omega arith; odd = λ o. absurd (omega arith) }
+apex {m} second = record { even = λ e. omega arith; odd = λ o. absurd (omega arith) }
+apex (firstHalf {k = k} {l = l} {a = a} {r = r} t) =
+    let c = halfway (cut t) in
+    let p = apex t in
+    record { even = λ e. let o = p .odd (omega arith) in omega arith; odd = λ o. let e = p .even (omega arith) in omega arith }
+apex (secondHalf {k = k} {l = l} {a = a} {r = r} t) =
+    let c = halfway (cut t) in
+    let p = apex t in
+    record { even = λ e. let o = p .odd (omega arith) in omega arith; odd = λ o. let e = p .even (omega arith) in omega arith }

@@ -22,3 +22,9 @@ pub record Stage (m k : ℕ) (c : Point) : Type 0 where
   pub inner : isCorner m c ≡ false
   pub atCentre : k % 2 ≡ 1 → (units m c .across % 2 ≡ 1) × (units m c .up % 2 ≡ 1)
   pub atEdge : k % 2 ≡ 0 → (units m c .across + units m c .up) % 2 ≡ 1
+
+-- Apex a, longest side l to r: the two sides at the apex are equally long and at a right angle. What lies from l to a lies from a to r,
+-- turned by a quarter, counter-clockwise where k is even and clockwise where k is odd.
+pub record Apex (k : ℕ) (l a r : Point) : Type 0 where
+  pub even : k % 2 ≡ 0 → (r .x + a .y ≡ a .x + l .y) × (r .y + l .x ≡ a .y + a .x)
+  pub odd : k % 2 ≡ 1 → (r .x + l .y ≡ a .x + a .y) × (r .y + a .x ≡ a .y + l .x)

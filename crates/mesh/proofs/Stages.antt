@@ -1,14 +1,14 @@
 -- The triangles that cutting passes through are those of the hierarchy, so the stages alternate: after an even number of cuts a triangle
--- is cut at a block centre, after an odd number at an edge midpoint.
+-- is cut at a block centre, after an odd number at an edge midpoint; and l to r is the longest side.
 use mathlib.Core.Path.{_≡_, subst}
 use mathlib.Core.Bool.{Bool}
 use Prim.Native.Nat.{ℕ, zero, suc, _+_, _*_}
 use native.Mathlib.Omega.{arith}
 use Rattle.grid.specs.Grid.{midpoint}
-use Rattle.grid.specs.Hierarchy.{Triangle, first as firstOf, second as secondOf, firstHalf as firstHalfOf, secondHalf as secondHalfOf, Stage}
+use Rattle.grid.specs.Hierarchy.{Triangle, first as firstOf, second as secondOf, firstHalf as firstHalfOf, secondHalf as secondHalfOf, Stage, Apex}
 use Rattle.grid.specs.declared.points.Point.{Point}
 use Rattle.grid.proofs.Cutting.{cut, stage}
-use Rattle.grid.proofs.Turning.{halfway}
+use Rattle.grid.proofs.Turning.{halfway, apex}
 use Rattle.mesh.specs.Rule.{CutAt, Met, first, second, firstHalf, secondHalf}
 use Rattle.mesh.proofs.Leads.{no-midpoint, at-halfway, one-midpoint}
 
@@ -55,3 +55,10 @@ module _ {m : ℕ} {kept : Point → Bool} where
         atCentre = λ e. s .atCentre (omega (arith, w .all));
         atEdge = λ e. s .atEdge (omega (arith, w .all));
       })
+
+  -- and each has its apex where two equal sides stand at a right angle
+  pub apexes : {cuts : ℕ} {l a r : Point} → Met m kept cuts l a r → Apex cuts l a r
+  apexes t =
+      let w = placed t in
+      let p = apex (w .triangle) in
+      record { even = λ e. p .even (omega (arith, w .all)); odd = λ o. p .odd (omega (arith, w .all)) }

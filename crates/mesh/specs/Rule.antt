@@ -1,6 +1,6 @@
 -- Document 01's sentences about triangles, as records. A call meets the promise just where `Follows` holds; of an accepted call `Told`
--- holds besides; of the triangles that cutting passes through, `Met`, grid's `Stage` does. The order of corners is `written`, the places
--- are `placesOf`, a mark that keeps its point is `keptMark`. Definitions only.
+-- holds besides; of the triangles that cutting passes through, `Met`, grid's `Stage` and `Apex` do. The order of corners is `written`, the
+-- places are `placesOf`, a mark that keeps its point is `keptMark`. Definitions only.
 use mathlib.Core.Path.{_≡_}
 use mathlib.Core.Bool.{Bool, true}
 use mathlib.Core.List.{List, [], _∷_, _++_, List·Memᴰ}
