@@ -21,7 +21,7 @@ use Rattle.selection.proofs.Counts.{one-most}
 use Rattle.mesh.specs.Triangles.{keptInside, keptBorder, number}
 use Rattle.mesh.specs.Closed.{keptBy}
 use Rattle.mesh.specs.Inner.{keptPlace, keptOnce, keptFrom, keptBetweenEnds, Row, sum}
-use Rattle.mesh.proofs.Trapezoid.{sum-split, touched, touched-sum, between}
+use Rattle.mesh.proofs.Trapezoid.{sum-split, touched, touched-sum, not-outermost}
 
 -- by the three tests: a kept point adds 1 for each way in which it is not outermost
 tests : (kept outX outY : Bool) →
@@ -82,7 +82,7 @@ module _ (m : ℕ) (marks : List ℕ) where
         sum adds i n ≡ sum (λ k. touched outer (keptOnce marks k)) i n
     adds-between a i zero e p h = refl
     adds-between a i (suc n) e p h =
-        let here = rw (between m a p (omega arith)) at (adds-at a e (omega arith)) in
+        let here = rw (not-outermost m a p (omega arith)) at (adds-at a e (omega arith)) in
         omega (arith, here, twice outer (keptOnce marks i), adds-between (suc a) (suc i) n (omega arith) (omega arith) (omega arith))
 
     row-adds : {i : ℕ} → i ≡ b * (side m + 1) →
@@ -170,7 +170,7 @@ module _ (m : ℕ) (marks : List ℕ) where
         r ≡ keptOnce marks at + keptOnce marks (at + side m) + 2 * keptBetweenEnds marks at (side m) →
         Counted m marks (at + (side m + 1)) (triangles + r)
     counted-next l e =
-        let row = rw (between m (c .row) (c .first) (inner l)) at (row-adds m marks (c .row) (c .last) (c .from)) in
+        let row = rw (not-outermost m (c .row) (c .first) (inner l)) at (row-adds m marks (c .row) (c .last) (c .from)) in
         record {
           row = suc (c .row);
           from = omega (arith, c .from, suc-mul (c .row) (side m + 1));

@@ -47,14 +47,15 @@ pub touched-sum : (t : Bool) (f : ℕ → ℕ) (i n : ℕ) → touched t (sum f 
 touched-sum true f i n = refl
 touched-sum false f i n = sym (sum-add f f i n)
 
-pub between : (m c : ℕ) → 0 < c → c < side m → outermost m c ≡ false
-between m c l h = rw (ne-eqb c 0 (λ e. omega arith), ne-eqb c (side m) (λ e. omega arith))
+-- a number that is not outermost
+pub not-outermost : (m c : ℕ) → 0 < c → c < side m → outermost m c ≡ false
+not-outermost m c l h = rw (ne-eqb c 0 (λ e. omega arith), ne-eqb c (side m) (λ e. omega arith))
 
 module _ (m : ℕ) (f : ℕ → ℕ) where
   -- from some number after 0 on
   after : (i n : ℕ) → 0 < i → i + n ≡ side m → f i + sum (λ c. f c + f (suc c)) i n ≡ sum (λ c. touched (outermost m c) (f c)) i (suc n)
   after i zero l e = let g : i ≡ side m = omega arith in rw (g, at-east m) (omega arith)
-  after i (suc n) l e = rw (between m i l (omega arith)) (omega (arith, after (suc i) n (omega arith) (omega arith)))
+  after i (suc n) l e = rw (not-outermost m i l (omega arith)) (omega (arith, after (suc i) n (omega arith) (omega arith)))
 
   whole : (n : ℕ) → n ≡ side m → sum (λ c. f c + f (suc c)) 0 n ≡ sum (λ c. touched (outermost m c) (f c)) 0 (suc n)
   whole zero e = absurd (omega (arith, pow-pos m))
