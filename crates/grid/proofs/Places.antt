@@ -1,17 +1,21 @@
 -- Places and points are inverse, a place is below the number of samples, and the place of a midpoint is half the sum of
 -- the places: a place is linear in its point.
 use mathlib.Core.Path.{_≡_, refl, sym, ap, _∙_, subst⁻¹}
-use Prim.Native.Nat.{ℕ, _+_, _*_, _/_, _%_, _≤_, _<_}
+use Prim.Native.Nat.{ℕ, _+_, _*_, _^_, _/_, _%_, _≤_, _<_}
 use native.Mathlib.Nat.{mul-add-div-right, mul-add-mod-self-right, div-eq-of-lt, mod-eq-of-lt, div-add-mod', mod-lt, div-lt-iff-lt-mul}
 use native.Mathlib.Nat.{mul-le-mul, mul-le-mul-right, one-mul, mul-assoc, add-mul, add-zero}
 use native.Mathlib.Omega.{arith}
-use lib.Pow.{pow-mono}
+use lib.Pow.{pow-mono, shl-exact}
 use Rattle.grid.specs.Grid.{side, samples, at, place, point, midplace, Inside, largest, widest, gridOf, Sound}
 use Rattle.grid.specs.declared.Grid.{Grid}
 use Rattle.grid.specs.declared.points.Point.{Point}
 
 pub side-small : {m : ℕ} → m ≤ largest → side m ≤ widest
 side-small h = pow-mono h
+
+-- 2 to any number of cuts fits 32 bits, so nothing is shifted out
+pub shifted : {k : ℕ} → k ≤ 2 * largest → 1 * 2 ^ k % 4294967296 ≡ 2 ^ k
+shifted {k} few = shl-exact 1 k 32 (omega arith) (omega arith) ∙ one-mul (2 ^ k)
 
 -- the grid of one of the eight sizes
 pub sound : {m : ℕ} {g : Grid} → m ≤ largest → g ≡ gridOf m → Sound g

@@ -33,10 +33,11 @@ impl Grid {
         requires { ⌜ Sound self × (i < samples (self .m)) ⌝ }
         ensures { λ r. ⌜ r ≡ point (self .m) i ⌝ }
     {
-        let row = (self.side as usize) + 1;
+        let row = self.side + 1;
+        let at = i as u32;
         Point {
-            x: (i % row) as u32,
-            y: (i / row) as u32,
+            x: at % row,
+            y: at / row,
         }
     }
 

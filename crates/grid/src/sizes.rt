@@ -88,7 +88,5 @@ pub fn grid_of(m: u32) -> Grid
     requires { ⌜ m ≤ largest ⌝ }
     ensures { λ r. ⌜ r ≡ gridOf m ⌝ }
 {
-    let answer = size_of(m);
-    let size = answer.size;
-    Grid { m, side: size.side }
+    Grid { m, side: 1u32 << m }
 }

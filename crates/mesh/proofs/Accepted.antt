@@ -22,10 +22,10 @@ use Rattle.mesh.proofs.Numbered.{number-triangles}
 use Rattle.mesh.proofs.Closing.{good-marks, closed-set}
 
 -- a test that says P, where it says no
-refutes : {t : Bool} {P : Type 0} → (t ≡ true) ↔ P → t ≡ false → ¬ P
+pub refutes : {t : Bool} {P : Type 0} → (t ≡ true) ↔ P → t ≡ false → ¬ P
 refutes says none p = true≢false (sym (says .1 p) ∙ none)
 
-refuted : {t : Bool} {P : Type 0} → (t ≡ true) ↔ P → ¬ P → t ≡ false
+pub refuted : {t : Bool} {P : Type 0} → (t ≡ true) ↔ P → ¬ P → t ≡ false
 refuted says not-p = false-by _ (λ e. not-p (says .0 e))
 
 module _ (h : Handed) where

@@ -1,8 +1,8 @@
 -- Every member of a list: what `every` says of the members, and of the grid's points. By the list's first member and the rest; the
 -- grid's points are those inside the square, each at its place.
 use mathlib.Core.Path.{_≡_, refl, sym, ap, _∙_, subst⁻¹}
-use mathlib.Core.Bool.{Bool, true, and-eq-true-iff}
-use mathlib.Core.List.{List, [], _∷_, List·Memᴰ, List·Memᴰ·head, List·Memᴰ·tail, List·Memᴰ·not-nil, List·Memᴰ·cases-cons, Memᴰ·cast}
+use mathlib.Core.Bool.{Bool, true, _&&_, and-assoc, and-eq-true-iff}
+use mathlib.Core.List.{List, [], _∷_, _++_, List·Memᴰ, List·Memᴰ·head, List·Memᴰ·tail, List·Memᴰ·not-nil, List·Memᴰ·cases-cons, Memᴰ·cast}
 use mathlib.Core.Logic.{⊎-elim, _↔_}
 use Prim.Native.Nat.{ℕ, zero, suc, _<_}
 use native.Mathlib.Nat.{not-suc-le-zero, le-of-suc-le-suc}
@@ -37,6 +37,19 @@ module _ {A : Type 0} (f : A → Bool) where
   pub in-every : (l : List A) → ((q : A) → List·Memᴰ q l → f q ≡ true) → every f l ≡ true
   in-every [] all = refl
   in-every (a ∷ l) all = rw (all a (List·Memᴰ·head refl)) (in-every l (λ q i. all q (List·Memᴰ·tail i)))
+
+-- the members of two lists in a row, and two tests that agree at the members
+module _ {A : Type 0} (f : A → Bool) where
+  pub every-append : (l k : List A) → every f (l ++ k) ≡ (every f l && every f k)
+  every-append [] k = refl
+  every-append (a ∷ l) k = rw (every-append l k) (sym (and-assoc (f a) (every f l) (every f k)))
+
+  pub every-same : (g : A → Bool) (l : List A) → ((q : A) → List·Memᴰ q l → f q ≡ g q) → every f l ≡ every g l
+  every-same g [] same = refl
+  every-same g (a ∷ l) same =
+      let first = same a (List·Memᴰ·head refl) in
+      let rest = every-same g l (λ q i. same q (List·Memᴰ·tail i)) in
+      λ i. first i && rest i
 
 -- the grid's points: one for each sample, at its place
 points-long : (m : ℕ) → length (points m) ≡ samples m

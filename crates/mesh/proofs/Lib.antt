@@ -16,6 +16,7 @@ pub mod Written
 pub mod Answered
 pub mod Rule
 pub mod Values
+pub mod Promised
 pub mod Passing
 pub mod Between
 pub mod Strides

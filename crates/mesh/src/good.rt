@@ -21,7 +21,7 @@ fn corner_good(g: Grid, x: u32, y: u32, marks: &[u8]) -> bool
     good(true, marks[at])
 }
 
-fn corners_good(g: Grid, marks: &[u8]) -> bool
+pub fn corners_good(g: Grid, marks: &[u8]) -> bool
     requires { ⌜ Sound g × (length (now marks) ≡ samples (g .m)) ⌝ }
     ensures { λ r. ⌜ r ≡ every (λ p. goodMark true (markAt (g .m) (now (marks .entry)) p)) (corners (g .m)) ⌝ }
 {

@@ -1,7 +1,7 @@
 // Triangles: the marks looked at, the uncut triangles written and counted.
 mod closed;
 mod cut;
-mod good;
+pub mod good;
 mod number;
 
 use closed::closed;

@@ -26,7 +26,7 @@ size-sum (pos m) (negsuc n) = size-less m (suc n)
 size-sum (negsuc m) (pos n) = omega (arith, size-less n (suc m))
 size-sum (negsuc m) (negsuc n) = omega arith
 
-size-opposite : (z : ℤ) → natAbs (negℤ z) ≡ natAbs z
+pub size-opposite : (z : ℤ) → natAbs (negℤ z) ≡ natAbs z
 size-opposite (pos zero) = refl
 size-opposite (pos (suc n)) = refl
 size-opposite (negsuc n) = refl

@@ -22,3 +22,4 @@ pub mod Ranks
 pub mod Answered
 pub mod Rule
 pub mod Values
+pub mod Promised

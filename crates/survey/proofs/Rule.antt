@@ -41,7 +41,7 @@ module _ (m : ℕ) (survey : List ℤ) where
             filled-sample p h ∙ height-void m survey p h v ∙ (λ i. floorMean (sym a i) (sym b i));
       }
 
-  small-sample : length survey ≡ samples m → Sixteen survey → (p : Point) → Inside m p → mag (sample m survey p) < 32768
+  pub small-sample : length survey ≡ samples m → Sixteen survey → (p : Point) → Inside m p → mag (sample m survey p) < 32768
   unfolding sample
   small-sample n small p h = small (place m p) (rw n (place-below m p h)) .sfits
 

@@ -1,40 +1,26 @@
--- `grid::Grid::point` meets its contract: row and column of a place below the number of samples are at most N.
-use Prim.Native.Nat.{ℕ, _+_, _<_, _≤_, _%_, _/_}
+-- `grid::Grid::point` meets its contract: a place below the number of samples fits 32 bits.
 use native.Mathlib.Omega.{arith}
 use borrow.Author.Needs.{needs}
-use Rattle.grid.specs.Grid.{point, samples, Sound, Inside, widest}
-use Rattle.grid.specs.declared.Grid.{Grid}
-use Rattle.grid.proofs.Places.{side-small, point-inside}
+use Rattle.grid.specs.Grid.{point}
+use Rattle.grid.proofs.Places.{side-small, samples-small}
 use Rattle.grid.proofs.Grid.point.Statement.{statement}
 use Rattle.grid.proofs.Grid.point.Tie as tie
 
-bound : (g : Grid) (i : ℕ) → Sound g → i < samples (g .m) → (i % (g .side + 1) ≤ widest) × (i / (g .side + 1) ≤ widest)
-unfolding point
-bound g i s h =
-    let l : Inside (g .m) (point (g .m) i) = point-inside (g .m) i h in
-    rw (s .sided) (omega (arith, l .east, side-small (s .small)), omega (arith, l .north, side-small (s .small)))
-
-cast-row : tie.Need-cast-row
-cast-row c = search needs
-
 add-row : tie.Need-add-row
-add-row c = search needs
+add-row c = let s = c .before .pre .0 in omega (arith, s .sided, side-small (s .small))
 
-rem-t4 : tie.Need-rem-t4
-rem-t4 c = search needs
+cast-at : tie.Need-cast-at
+cast-at c = let p = c .before .pre in omega (arith, p .1, samples-small (p .0 .small))
 
-cast-t5 : tie.Need-cast-t5
-cast-t5 c = omega (arith, bound (c .before .args .self) (c .before .args .i) (c .before .pre .0) (c .before .pre .1))
+rem-t5 : tie.Need-rem-t5
+rem-t5 c = search needs
 
 div-t6 : tie.Need-div-t6
 div-t6 c = search needs
-
-cast-t7 : tie.Need-cast-t7
-cast-t7 c = omega (arith, bound (c .before .args .self) (c .before .args .i) (c .before .pre .0) (c .before .pre .1))
 
 returns : tie.Need-returns
 unfolding point
 returns c = rw (c .before .pre .0 .sided)
 
 pub point-spec : {M : Type 1} → statement M
-point-spec = tie.close (tie.spec cast-row add-row rem-t4 cast-t5 div-t6 cast-t7 returns)
+point-spec = tie.close (tie.spec add-row cast-at rem-t5 div-t6 returns)
