@@ -1,0 +1,5 @@
+pub mod Quotient
+pub mod Walk
+pub mod Aimed
+pub mod Rule
+pub mod Inner
