@@ -2,9 +2,9 @@
 -- tests are asked in the order of the cases, so each case is what its test says where those before it say no; and the walk by
 -- weights is the sentences' walk.
 use mathlib.Core.Path.{_≡_, refl, sym, _∙_}
-use mathlib.Core.Bool.{Bool, true, false, cond, not, _||_, true≢false, and-eq-true-iff}
+use mathlib.Core.Bool.{Bool, true, false, cond, not, or-false, true≢false, and-eq-true-iff}
 use mathlib.Core.List.{List·Memᴰ·append-cases, Memᴰ·append-left, Memᴰ·append-right}
-use mathlib.Core.Logic.{_⊎_, inl, inr, ⊎-elim, _↔_}
+use mathlib.Core.Logic.{_⊎_, ⊎-elim, _↔_}
 use Prim.Native.Nat.{ℕ, _*_, _≤_}
 use native.Mathlib.Omega.{arith}
 use lib.Dec.{eqb, ltb}
@@ -21,20 +21,8 @@ use Rattle.mesh.proofs.Every.{every-in, in-every}
 use Rattle.mesh.proofs.Accepted.{refutes, refuted}
 use Rattle.aim.specs.Aimed.{Handed, rightLengths, beyond, ended, looked, cornerVoid, refusal}
 use Rattle.aim.specs.Rule.{Ends, queried, keptOf, Lengths, Within, Good, VoidCorner, Turned, size, lengths, point, mark, corner, nothing}
+use Rattle.aim.proofs.Either.{neither, any}
 use Rattle.aim.proofs.Passages.{Stops, stops, starting, meets, ends-only, meets-only, Lands}
-
-neither : (a b : Bool) → (a || b) ≡ false → (a ≡ false) × (b ≡ false)
-neither true b e = absurd (true≢false e)
-neither false b e = (refl, e)
-
-any : (a b c : Bool) → ((a || (b || (c || false))) ≡ true) ↔ ((a ≡ true) ⊎ ((b ≡ true) ⊎ (c ≡ true)))
-any true b c = (λ e. inl refl, λ o. refl)
-any false true c = (λ e. inr (inl refl), λ o. refl)
-any false false true = (λ e. inr (inr refl), λ o. refl)
-any false false false = (
-  λ e. absurd (true≢false (sym e)),
-  λ o. ⊎-elim (λ e. e) (λ o. ⊎-elim (λ e. e) (λ e. e) o) o,
-)
 
 true-by : (b : Bool) → ¬ (b ≡ false) → b ≡ true
 true-by true n = refl
@@ -80,7 +68,7 @@ module _ (h : Handed) where
   void : (cornerVoid h ≡ true) ↔ VoidCorner h (ended h .triangle .l) (ended h .triangle .a) (ended h .triangle .r)
   void =
       let at : Point → Bool = λ p. isVoid (sample (h .m) (h .heights) p) in
-      any (at (ended h .triangle .l)) (at (ended h .triangle .a)) (at (ended h .triangle .r))
+      rw (or-false (at (ended h .triangle .r))) (any (at (ended h .triangle .l)) (at (ended h .triangle .a)) (at (ended h .triangle .r)))
 
   -- where the walk ends
   pub end : Within h → Stops (h .m) (keptOf h) (queried h) (ended h)

@@ -3,24 +3,22 @@
 use mathlib.Core.Path.{_≡_, refl, sym, ap, _∙_}
 use mathlib.Core.Bool.{Bool, true, false, cond, true≢false}
 use mathlib.Core.Logic.{_≢_}
-use Prim.Native.Nat.{ℕ, _*_, _≤_}
+use Prim.Native.Nat.{ℕ, _≤_}
 use native.Mathlib.Decide.{ℕ-discrete}
 use borrow.Author.Tests.{ne-eqb}
 use Rattle.grid.specs.Grid.{largest, inQuarters, gridOf}
 use Rattle.grid.specs.Refusal.{accepted}
 use Rattle.grid.proofs.Places.{sound}
-use Rattle.mesh.specs.Closed.{keptBy}
 use Rattle.aim.specs.Quotient.{format, plusZero, quotient}
-use Rattle.aim.specs.Aimed.{Handed, started, ended, refusal, heightIn, nowhere, surveyed, filled, says, heightAt, noGround, planeAt}
+use Rattle.aim.specs.Aimed.{Handed, ended, refusal, heightIn, nowhere, surveyed, filled, says, heightAt, noGround, planeAt}
 use Rattle.aim.specs.Inner.{Stands, found, filledIn, Footing, weightedIn, groundAt}
 use Rattle.aim.specs.declared.walk.Reached.{Reached}
 use Rattle.aim.specs.declared.walk.Walked.{Walked}
 use Rattle.aim.specs.declared.walk.Walked.the-variants.{Ended, Refused}
-use Rattle.aim.proofs.Weights.{walked-left}
 use Rattle.aim.proofs.Accepted.{accepted-handed}
 use Rattle.aim.proofs.Placing.{filled-placed, void-placed, weighted-placed, ground-placed, stands-placed}
 use Rattle.aim.proofs.Finding.{to}
-use Rattle.aim.proofs.Grounds.{weighs}
+use Rattle.aim.proofs.Grounds.{weighs, cuts-left}
 use Rattle.aim.proofs.Answered as answered
 
 -- a number is no triangle
@@ -37,10 +35,6 @@ numberOf (Ended t) = accepted
 numberOf (Refused n) = n
 
 module _ (h : Handed) where
-  cuts-left : ended h .left ≤ 2 * h .m
-  unfolding ended
-  cuts-left = walked-left (keptBy (h .m) (h .marks)) (2 * h .m) (started h)
-
   found-taken : refusal h ≡ accepted → found h ≡ Ended (to h)
   unfolding found
   found-taken ok = rw ok
@@ -74,7 +68,7 @@ module _ (h : Handed) where
           stands = stands-placed (h .m) (a .small) (a .long .heights) (ended h) w;
           surveyed = void-placed (h .m) (h .heights) (ended h) ∙ a .surveyed;
           weights = w .sum;
-          cuts = cuts-left;
+          cuts = cuts-left h (a .within);
         })
 
     pub ended-marked : Stands (h .marks) t

@@ -1,6 +1,6 @@
 -- The samples that the code reads have 16 bits, and one that is not void is a height; so a float holds heights by their weights, and tilts.
 use mathlib.Core.Path.{_≡_, refl}
-use mathlib.Core.Bool.{Bool, true, false, _||_, true≢false}
+use mathlib.Core.Bool.{false}
 use mathlib.Core.List.{List}
 use Prim.Native.Nat.{ℕ, _*_, _^_, _≤_, _<_}
 use native.Mathlib.Nat.{mul-le-mul-right}
@@ -19,6 +19,7 @@ use Rattle.aim.specs.Quotient.{format, Representable}
 use Rattle.aim.specs.Aimed.{tilt}
 use Rattle.aim.specs.Inner.{Stands, Light, standing, voidIn, weightedIn}
 use Rattle.aim.specs.declared.walk.Reached.{Reached}
+use Rattle.aim.proofs.Either.{none}
 use Rattle.aim.proofs.Standing.{read}
 use Rattle.aim.proofs.Planes.{weighted-most, tilt-most}
 
@@ -39,17 +40,11 @@ reading heights i below f = record {
   size = natAbs-le (standing heights i) (of-16 heights i below f .sfits);
 }
 
--- none of three
-none : (a b : Bool) {c : Bool} → (a || (b || c)) ≡ false → (a ≡ false) × (b ≡ false) × (c ≡ false)
-none true b e = absurd (true≢false e)
-none false true e = absurd (true≢false e)
-none false false e = (refl, refl, e)
-
 module _ (heights : List ℤ) (t : Reached) (stands : Stands heights t) (light : Light t) (surveyed : voidIn heights t ≡ false) where
   pub weighted-held : Stored heights (t .l) → Stored heights (t .a) → Stored heights (t .r) → natAbs (weightedIn heights t) < 2 ^ prec format
   unfolding weightedIn
   weighted-held l a r =
-      let v = none _ _ surveyed in
+      let v = none (isVoid (standing heights (t .l))) (isVoid (standing heights (t .a))) (isVoid (standing heights (t .r))) surveyed in
       let most =
       weighted-most (t .wl) (t .wa) (t .wr) (standing heights (t .l)) (standing heights (t .a)) (standing heights (t .r)) highest
       (at-place (t .l) (stands .left) l (v .0))

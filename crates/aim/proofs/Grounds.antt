@@ -1,10 +1,10 @@
 -- What is known of the triangle in which the walk ends: its plane at the point, whether a corner that weighs in it was filled, and that no
 -- number worked out from it is too large for a float. The weights are the walk's own; the rest is the plane's algebra.
-use mathlib.Core.Path.{_≡_, refl, sym, ap, _∙_}
-use mathlib.Core.Bool.{Bool, true, false, not, _||_, and-eq-true-iff, true≢false}
+use mathlib.Core.Path.{_≡_, sym, ap, _∙_}
+use mathlib.Core.Bool.{Bool, true, false, not, and-eq-true-iff, true≢false}
 use mathlib.Core.List.{List}
 use mathlib.Core.Logic.{_⊎_, inl, inr, ⊎-elim, _↔_}
-use Prim.Native.Nat.{ℕ, _+_, _*_}
+use Prim.Native.Nat.{ℕ, _+_, _*_, _≤_}
 use native.Mathlib.Omega.{arith}
 use lib.Dec.{eqb}
 use lib.IntN.{ℤ, pos, _+ℤ_, _*ℤ_, +ℤ-comm, +ℤ-assoc}
@@ -19,9 +19,10 @@ use Rattle.mesh.specs.Triangles.{three, written}
 use Rattle.aim.specs.Walk.{Weighed, start}
 use Rattle.aim.specs.Aimed.{Handed, ended, asWritten, weighted, eastward, northward, fills, isFilled}
 use Rattle.aim.specs.Rule.{OnLine, Plane, queried, keptOf, Within, FilledBy, FilledCorner}
+use Rattle.aim.proofs.Either.{any}
 use Rattle.aim.proofs.Planes.{plane-of}
 use Rattle.aim.proofs.Shares.{by-reading}
-use Rattle.aim.proofs.Weights.{Weighs, started, walked, weighs-l, weighs-a, weighs-r}
+use Rattle.aim.proofs.Weights.{Weighs, started, walked, walked-left, weighs-l, weighs-a, weighs-r}
 
 backwards : (a b c : ℤ) → c +ℤ b +ℤ a ≡ a +ℤ b +ℤ c
 backwards a b c = +ℤ-comm (c +ℤ b) a ∙ ap (λ (z : ℤ). a +ℤ z) (+ℤ-comm c b) ∙ sym (+ℤ-assoc a b c)
@@ -30,12 +31,7 @@ backwards a b c = +ℤ-comm (c +ℤ b) a ∙ ap (λ (z : ℤ). a +ℤ z) (+ℤ-c
 swap : (p s q : Point) → OnLine p s q → OnLine s p q
 swap p s q e = omega arith
 
--- one of three tests holds, and what each says
-any : (a b c : Bool) → ((a || (b || c)) ≡ true) ↔ ((a ≡ true) ⊎ ((b ≡ true) ⊎ (c ≡ true)))
-any true b c = (λ e. inl refl, λ o. refl)
-any false true c = (λ e. inr (inl refl), λ o. refl)
-any false false c = (λ e. inr (inr e), λ o. ⊎-elim (λ e. absurd (true≢false (sym e))) (λ o. ⊎-elim (λ e. absurd (true≢false (sym e))) (λ e. e) o) o)
-
+-- one of three holds, by what each says
 same-of : {T A B C P Q R : Type 0} → T ↔ (A ⊎ (B ⊎ C)) → A ↔ P → B ↔ Q → C ↔ R → T ↔ (P ⊎ (Q ⊎ R))
 same-of s a b c = (
   λ t. ⊎-elim (λ x. inl (a .0 x)) (λ o. ⊎-elim (λ x. inr (inl (b .0 x))) (λ x. inr (inr (c .0 x))) o) (s .0 t),
@@ -66,6 +62,10 @@ module _ (h : Handed) (w : Within h) where
   pub weighs : Weighs (h .m) (ended h .left) (queried h) (ended h .triangle)
   unfolding ended
   weighs = walked (keptOf h) (2 * h .m) (start (h .m) (queried h)) (started (h .m) (queried h) (w .east) (w .north))
+
+  pub cuts-left : ended h .left ≤ 2 * h .m
+  unfolding ended
+  cuts-left = walked-left (keptOf h) (2 * h .m) (start (h .m) (queried h))
 
   pub plane : Plane (h .m) (h .heights) (asWritten (ended h)) (queried h) (weighted (h .m) (h .heights) (ended h .triangle))
       (eastward (h .m) (h .heights) (asWritten (ended h))) (northward (h .m) (h .heights) (asWritten (ended h)))

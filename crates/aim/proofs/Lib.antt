@@ -1,3 +1,4 @@
+pub mod Either
 pub mod Exactness
 pub mod Differences
 pub mod Planes

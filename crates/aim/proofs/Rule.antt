@@ -5,7 +5,7 @@ use mathlib.Core.Path.{_≡_, refl, sym, ap, _∙_}
 use mathlib.Core.Bool.{Bool, true, false, cond, true≢false}
 use mathlib.Core.List.{List·Memᴰ, List·Memᴰ·head, List·Memᴰ·tail}
 use mathlib.Core.Logic.{_≢_, _↔_}
-use Prim.Native.Nat.{ℕ, _+_, _-_, _*_, _^_, _≤_, _<_}
+use Prim.Native.Nat.{ℕ, _+_, _-_, _*_, _^_, _<_}
 use native.Mathlib.Omega.{arith}
 use native.Mathlib.Decide.{ℕ-discrete}
 use lib.IntN.{ℤ}
@@ -21,21 +21,21 @@ use Rattle.survey.specs.Rule.{Sixteen}
 use Rattle.selection.proofs.Some.{in-some}
 use Rattle.mesh.specs.Triangles.{Three, written}
 use Rattle.aim.specs.Quotient.{format, plusZero, Exactly}
-use Rattle.aim.specs.Walk.{Weighed, start}
+use Rattle.aim.specs.Walk.{Weighed}
 use Rattle.aim.specs.Aimed.{Handed, ended, cornersOf, refusal, asWritten, weighted, eastward, northward, isFilled, heightIn, groundIn, noGround}
 use Rattle.aim.specs.Aimed.{Origin, nowhere, surveyed, filled, Said, says, said, heightAt, planeAt}
-use Rattle.aim.specs.Rule.{queried, keptOf, area, FilledCorner, Ground, Answered, FollowsHeight, Grounded, FollowsPlane, Told}
+use Rattle.aim.specs.Rule.{queried, area, FilledCorner, Ground, Answered, FollowsHeight, Grounded, FollowsPlane, Told}
 use Rattle.aim.specs.declared.HeightAnswer.{HeightAnswer}
 use Rattle.aim.specs.declared.HeightAnswer.the-variants.{Surveyed, Filled, Refused}
 use Rattle.aim.specs.declared.PlaneAnswer.{PlaneAnswer}
 use Rattle.aim.proofs.Exactness.{exactly, exactly-only}
 use Rattle.aim.proofs.Planes.{plane-only, moved-east, moved-north}
-use Rattle.aim.proofs.Weights.{Weighs, walked-left, area-power, contained, barycentric-even, barycentric-odd}
+use Rattle.aim.proofs.Weights.{Weighs, area-power, contained, barycentric-even, barycentric-odd}
 use Rattle.aim.proofs.Passages.{Lands, same-order}
 use Rattle.aim.proofs.Accepted.{turned, turned-only, end, lands, Accepted, accepted-handed}
 use Rattle.aim.proofs.Answered.{height-taken, height-refused, height-number, plane-taken, plane-refused, plane-number}
 use Rattle.aim.proofs.Bounds.{quarters-power, is-height, Known, AllKnown, whole-largest, height-fits, east-fits, north-fits}
-use Rattle.aim.proofs.Grounds.{weighs, plane, filled-here}
+use Rattle.aim.proofs.Grounds.{weighs, cuts-left, plane, filled-here}
 
 -- an origin as a number, which tells two apart; Filled or Surveyed by a test
 abbrev pub kind : Origin → ℕ
@@ -127,21 +127,17 @@ module _ (h : Handed) (small : Sixteen (h .heights)) (a : Accepted h) where
           let surveyed = false-by (void p) (λ v. true≢false (sym (in-some void (cornersOf triangle) k v) ∙ a .surveyed)) in
           record { inside = i; height = is-height (h .m) (h .heights) (a .long .heights) small p i surveyed }
 
-  few : left ≤ 2 * h .m
-  unfolding ended
-  few = walked-left (keptOf h) (2 * h .m) (start (h .m) (queried h))
-
   exact-height : Exactly format z (inQuarters (h .m)) (heightIn (h .m) (h .heights) triangle)
   unfolding heightIn
   exact-height = exactly format z (inQuarters (h .m)) (height-fits (h .heights) (a .small) here known)
 
   exact-east : Exactly format e (area (asWritten (ended h))) (groundIn (h .m) (h .heights) (ended h) .east)
   unfolding groundIn
-  exact-east = rw area-here (exactly format e (2 ^ left) (east-fits (h .heights) (a .small) here known few))
+  exact-east = rw area-here (exactly format e (2 ^ left) (east-fits (h .heights) (a .small) here known (cuts-left h (a .within))))
 
   exact-north : Exactly format n (area (asWritten (ended h))) (groundIn (h .m) (h .heights) (ended h) .north)
   unfolding groundIn
-  exact-north = rw area-here (exactly format n (2 ^ left) (north-fits (h .heights) (a .small) here known few))
+  exact-north = rw area-here (exactly format n (2 ^ left) (north-fits (h .heights) (a .small) here known (cuts-left h (a .within))))
 
   -- what is answered, and that nothing else is
   abbrev origin : Origin

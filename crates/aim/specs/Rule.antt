@@ -169,18 +169,18 @@ pub record Ground (h : Handed) : Type 0 where
   pub n : ℤ
   pub plane : Plane (h .m) (h .heights) (written cuts l a r) (queried h) z e n
 
--- A weight w is to 4N as the doubled area of the point and the corners p and s is to that of the triangle. The former is counted in quarter
--- cells, 16 to one, so N times it is 4 times the triangle's by the weight.
-abbrev pub Share : ℕ → Three → Point → Point → Point → ℕ → Type 0
-Share m t q p s w =
-    side m * onward (quartered p) (quartered s) q ≡ side m * backward (quartered p) (quartered s) q + quarters * (area t * w)
-
 -- an answered height: that of the plane at the point, exactly; Filled exactly when a corner that weighs in it has a mark of 4 or more
 pub record Answered (h : Handed) (o : Origin) (x : Float) : Type 0 where
   pub ground : Ground h
   pub exactly : Exactly format (ground .z) (inQuarters (h .m)) x
   pub isFilled : (o ≡ filled) ↔ FilledCorner h (written (ground .cuts) (ground .l) (ground .a) (ground .r))
   pub isSurveyed : (o ≡ surveyed) ↔ ¬ (FilledCorner h (written (ground .cuts) (ground .l) (ground .a) (ground .r)))
+
+-- A weight w is to 4N as the doubled area of the point and the corners p and s is to that of the triangle. The former is counted in quarter
+-- cells, 16 to one, so N times it is 4 times the triangle's by the weight.
+abbrev pub Share : ℕ → Three → Point → Point → Point → ℕ → Type 0
+Share m t q p s w =
+    side m * onward (quartered p) (quartered s) q ≡ side m * backward (quartered p) (quartered s) q + quarters * (area t * w)
 
 -- The weights of a point, given in quarter cells, at the corners of a triangle, these in counter-clockwise order: whole numbers that add up
 -- to 4N, by which the point is the mean of the corners; and each is to 4N as the doubled area of the point and the other two corners is
