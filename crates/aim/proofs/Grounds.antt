@@ -73,7 +73,7 @@ module _ (h : Handed) (w : Within h) where
 
   -- a corner that weighs in the answer was filled
   module _ (p s r : Point) (n : ℕ) (line : OnLine s r (queried h) ↔ (n ≡ 0)) where
-    fills-by : (fills (h .m) (h .marks) n p ≡ true) ↔ FilledBy h p s r
+    fills-by : (fills n (markAt (h .m) (h .marks) p) ≡ true) ↔ FilledBy h p s r
     fills-by =
         let both = and-eq-true-iff (not (eqb n 0)) (filledMark (markAt (h .m) (h .marks) p)) in (
           λ e. let b = both .0 e in record { weighs = λ on. true≢false (sym (b .0) ∙ rw (eq-eqb n 0 (line .0 on))); mark = b .1 },
@@ -82,14 +82,14 @@ module _ (h : Handed) (w : Within h) where
 
   -- the corner's line is that of the other two, from either end
   module _ (p s r : Point) (n : ℕ) (line : OnLine s r (queried h) ↔ (n ≡ 0)) where
-    fills-back : (fills (h .m) (h .marks) n p ≡ true) ↔ FilledBy h p r s
+    fills-back : (fills n (markAt (h .m) (h .marks) p) ≡ true) ↔ FilledBy h p r s
     fills-back = fills-by p r s n (λ on. line .0 (swap r s (queried h) on), λ z. swap s r (queried h) (line .1 z))
 
   pub filled-here : (isFilled (h .m) (h .marks) (ended h .triangle) ≡ true) ↔ FilledCorner h (asWritten (ended h))
   unfolding isFilled
   filled-here =
       let t = ended h .triangle in
-      let one : ℕ → Point → Bool = λ n p. fills (h .m) (h .marks) n p in
+      let one : ℕ → Point → Bool = λ n p. fills n (markAt (h .m) (h .marks) p) in
       let three = any (one (t .wl) (t .l)) (one (t .wa) (t .a)) (one (t .wr) (t .r)) in
       let back =
       same-of three (fills-back (t .l) (t .a) (t .r) (t .wl) (weighs-l weighs)) (fills-back (t .a) (t .r) (t .l) (t .wa) (weighs-a weighs))

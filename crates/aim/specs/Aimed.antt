@@ -80,13 +80,14 @@ weighted m heights t =
 unfoldable pub heightIn : ℕ → List ℤ → Weighed → Float
 heightIn m heights t = quotient format (weighted m heights t) (inQuarters m)
 
--- a corner of this weight at this point makes the answer filled: its weight is other than zero, and its mark is 4 or more
-abbrev pub fills : ℕ → List ℕ → ℕ → Point → Bool
-fills m marks w p = not (eqb w 0) && filledMark (markAt m marks p)
+-- a corner of this weight, with this mark, makes the answer filled: the weight is other than zero, and the mark is 4 or more
+abbrev pub fills : ℕ → ℕ → Bool
+fills w mark = not (eqb w 0) && filledMark mark
 
 -- Filled exactly when a corner with a weight other than zero carries a mark of 4 or more
 unfoldable pub isFilled : ℕ → List ℕ → Weighed → Bool
-isFilled m marks t = fills m marks (t .wl) (t .l) || (fills m marks (t .wa) (t .a) || fills m marks (t .wr) (t .r))
+isFilled m marks t =
+    fills (t .wl) (markAt m marks (t .l)) || (fills (t .wa) (markAt m marks (t .a)) || fills (t .wr) (markAt m marks (t .r)))
 
 -- where an answer comes from: there is none, it is surveyed, or it is filled
 pub data Origin : Type 0 where

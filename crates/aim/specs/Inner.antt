@@ -1,6 +1,6 @@
 -- What functions inside this crate may ask and what they promise one another. No rule rests on it. Definitions only.
 use mathlib.Core.Path.{_≡_}
-use mathlib.Core.Bool.{Bool, true, false, cond, not, _&&_, _||_}
+use mathlib.Core.Bool.{Bool, true, false, cond, not, _||_}
 use mathlib.Core.List.{List}
 use Prim.Native.Nat.{ℕ, zero, suc, _+_, _-_, _*_, _^_, _≤_, _<_}
 use lib.Dec.{eqb, leb, ltb}
@@ -9,7 +9,7 @@ use lib.IntN.{ℤ, pos, natAbs, _+ℤ_, _*ℤ_}
 use lib.Ieee.{Float, prec}
 use Rattle.grid.specs.Grid.{samples, largest, inQuarters, place, point, midplace, void, isVoid, Sound}
 use Rattle.grid.specs.Points.{odd}
-use Rattle.grid.specs.Mark.{leftOut, goodMark, filledMark}
+use Rattle.grid.specs.Mark.{leftOut, goodMark}
 use Rattle.grid.specs.Refusal.{accepted, sizeAbove, wrongLength, voidCorner, pointBeyond, badMark}
 use Rattle.grid.specs.declared.Grid.{Grid}
 use Rattle.selection.specs.Marks.{markAt}
@@ -18,7 +18,7 @@ use Rattle.mesh.specs.Closed.{every}
 use Rattle.mesh.specs.Inner.{keptPlace, goodInner}
 use Rattle.aim.specs.Quotient.{format, quotient}
 use Rattle.aim.specs.Walk.{Under, under}
-use Rattle.aim.specs.Aimed.{Handed, rightLengths, beyond, started, ended, refusal, tilt}
+use Rattle.aim.specs.Aimed.{Handed, rightLengths, beyond, started, ended, refusal, fills, tilt}
 use Rattle.aim.specs.declared.GroundPlane.{GroundPlane}
 use Rattle.aim.specs.declared.walk.Reached.{Reached}
 use Rattle.aim.specs.declared.walk.Walked.{Walked}
@@ -120,14 +120,11 @@ finished m marks heights (Ended t) = checked (cornersGood m marks) heights (walk
 unfoldable pub found : Handed → Walked
 found h = cond (eqb (refusal h) accepted) (Ended (placed (h .m) (ended h))) (Refused (refusal h))
 
--- a corner of this weight and with this mark makes the answer filled
-abbrev pub fillsBy : ℕ → ℕ → Bool
-fillsBy w mark = not (eqb w 0) && filledMark mark
-
+-- a corner that weighs has a mark of 4 or more
 unfoldable pub filledIn : List ℕ → Reached → Bool
 filledIn marks t =
-    fillsBy (t .wl) (getD marks (t .l) leftOut)
-    || (fillsBy (t .wa) (getD marks (t .a) leftOut) || fillsBy (t .wr) (getD marks (t .r) leftOut))
+    fills (t .wl) (getD marks (t .l) leftOut)
+    || (fills (t .wa) (getD marks (t .a) leftOut) || fills (t .wr) (getD marks (t .r) leftOut))
 
 -- what the height and the slopes ask of the triangle that a walk reached: heights stand at its corners, none of them void
 pub record Footing (g : Grid) (heights : List ℤ) (t : Reached) : Type 0 where

@@ -19,8 +19,8 @@ ghost use Prim.Native.Nat.{_<_};
 ghost use lib.Dec.{eqb, ltb};
 ghost use lib.ListN.{length};
 ghost use Rattle.grid.specs.Grid.{Sound, inQuarters};
-ghost use Rattle.aim.specs.Aimed.{handed, said, heightAt, planeAt};
-ghost use Rattle.aim.specs.Inner.{Stands, Over, voidIn, lastRefusal, checked, begun, Begun, finished, fillsBy, filledIn};
+ghost use Rattle.aim.specs.Aimed.{handed, fills, said, heightAt, planeAt};
+ghost use Rattle.aim.specs.Inner.{Stands, Over, voidIn, lastRefusal, checked, begun, Begun, finished, filledIn};
 
 pub enum HeightAnswer {
     Surveyed(f32),
@@ -141,7 +141,7 @@ fn finish(marks: &[u8], heights: &[i16], m: u32, from: Walked) -> Walked
 
 // A corner that weighs nothing does not count.
 fn fills(weight: u32, mark: u8) -> bool
-    ensures { λ r. ⌜ r ≡ fillsBy weight mark ⌝ }
+    ensures { λ r. ⌜ r ≡ fills weight mark ⌝ }
 {
     if weight == 0 {
         return false;

@@ -1,5 +1,6 @@
 -- What the code is told of a size: refusal 1 where m is above the largest, else what size m holds.
 use mathlib.Core.Path.{_≡_, refl}
+use mathlib.Core.Logic.{_≢_}
 use Prim.Native.Nat.{ℕ, _≤_, _<_}
 use native.Mathlib.Omega.{arith}
 use native.Mathlib.Decide.{decLe}
@@ -22,3 +23,10 @@ module _ (m : ℕ) (a : SizeAnswer) (e : a ≡ sizeAnswer m) where
       go : Dec (m ≤ largest) → m ≤ largest
       go (yes l) = l
       go (no l) = omega (arith, above (omega arith))
+
+  pub large : a .refusal ≢ accepted → largest < m
+  large z = go (decLe m largest)
+    where
+      go : Dec (m ≤ largest) → largest < m
+      go (yes l) = absurd (z (within l .0))
+      go (no l) = omega arith

@@ -2,9 +2,7 @@
 use mathlib.Core.Path.{_≡_, sym, ap, _∙_}
 use mathlib.Core.Bool.{true, false, _&&_, _||_}
 use mathlib.Core.Logic.{_≢_}
-use Prim.Native.Nat.{ℕ, _*_, _≤_, _<_}
-use native.Mathlib.Omega.{arith}
-use native.Mathlib.Decide.{decLe}
+use Prim.Native.Nat.{ℕ, _*_, _≤_}
 use borrow.Author.Needs.{needs}
 use lib.Dec.{eqb, ltb}
 use lib.ListN.{length}
@@ -14,7 +12,7 @@ use Rattle.grid.specs.Sizes.{sizeAnswer}
 use Rattle.grid.specs.declared.Grid.{Grid}
 use Rattle.grid.specs.declared.sizes.SizeAnswer.{SizeAnswer}
 use Rattle.grid.proofs.Places.{sound}
-use Rattle.grid.proofs.Sized.{above, within, small}
+use Rattle.grid.proofs.Sized.{above, within, small, large}
 use Rattle.mesh.proofs.Passing.{denied}
 use Rattle.aim.specs.Walk.{start, under}
 use Rattle.aim.specs.Aimed.{Handed, handed, rightLengths, beyond}
@@ -106,11 +104,7 @@ told-start c =
 
 -- a size that is none
 size-refused : (h : Handed) (a : SizeAnswer) → a ≡ sizeAnswer (h .m) → a .refusal ≢ accepted → Refused (a .refusal) ≡ begun h
-size-refused h a e z = go (decLe (h .m) largest)
-  where
-    go : Dec (h .m ≤ largest) → Refused (a .refusal) ≡ begun h
-    go (yes l) = absurd (z (within (h .m) a e l .0))
-    go (no l) = let m : largest < h .m = omega arith in ap Refused (above (h .m) a e m) ∙ begun-size h m
+size-refused h a e z = let m = large (h .m) a e z in ap Refused (above (h .m) a e m) ∙ begun-size h m
 
 size-of-requires : tie.Need-size-of-requires
 size-of-requires c κs = search needs

@@ -2,9 +2,7 @@
 use mathlib.Core.Path.{_≡_, sym, ap, _∙_}
 use mathlib.Core.Bool.{true, true≢false}
 use mathlib.Core.Logic.{_≢_}
-use Prim.Native.Nat.{ℕ, _*_, _≤_, _<_}
-use native.Mathlib.Omega.{arith}
-use native.Mathlib.Decide.{decLe}
+use Prim.Native.Nat.{ℕ, _*_, _≤_}
 use borrow.Author.Needs.{needs}
 use borrow.Author.Tests.{ltb-true, ltb-false}
 use lib.ListN.{length}
@@ -14,7 +12,7 @@ use Rattle.grid.specs.Sizes.{sizeAnswer}
 use Rattle.grid.specs.declared.Grid.{Grid}
 use Rattle.grid.specs.declared.sizes.SizeAnswer.{SizeAnswer}
 use Rattle.grid.proofs.Places.{sound}
-use Rattle.grid.proofs.Sized.{above, within, small}
+use Rattle.grid.proofs.Sized.{above, within, small, large}
 use Rattle.selection.specs.Rule.{Closed}
 use Rattle.mesh.specs.Triangles.{points, number}
 use Rattle.mesh.specs.Closed.{every, goodMarks, keptBy, supported, closed}
@@ -123,13 +121,7 @@ told-number c =
 
 -- a size that is none
 size-refused : (h : Handed) (a : SizeAnswer) → a ≡ sizeAnswer (h .m) → a .refusal ≢ accepted → answering (a .refusal) 0 ≡ answerOf h
-size-refused h a e z = go (decLe (h .m) largest)
-  where
-    go : Dec (h .m ≤ largest) → answering (a .refusal) 0 ≡ answerOf h
-    go (yes l) = absurd (z (within (h .m) a e l .0))
-    go (no l) =
-        let m : largest < h .m = omega arith in
-        ap (λ (n : ℕ). answering n 0) (above (h .m) a e m) ∙ answer-turned h (size m)
+size-refused h a e z = let m = large (h .m) a e z in ap (λ (n : ℕ). answering n 0) (above (h .m) a e m) ∙ answer-turned h (size m)
 
 -- what the three calls on the grid ask
 ready : (c : Long) {g : Grid} → g ≡ gridOf (asked (sized c) .m) → Sound g × (length (asked (sized c) .marks) ≡ samples (g .m))

@@ -3,8 +3,6 @@ use mathlib.Core.Path.{_≡_, sym, ap, _∙_}
 use mathlib.Core.Logic.{_≢_}
 use mathlib.Core.Bool.{Bool, true, false, cond, _&&_}
 use Prim.Native.Nat.{ℕ, _≤_, _<_}
-use native.Mathlib.Omega.{arith}
-use native.Mathlib.Decide.{decLe}
 use borrow.Author.Needs.{needs}
 use borrow.Author.Tests.{le-ltb, lt-ltb}
 use lib.Dec.{T, eqb, eqb→eq}
@@ -15,7 +13,7 @@ use Rattle.grid.specs.Sizes.{sizeAnswer}
 use Rattle.grid.specs.declared.Grid.{Grid}
 use Rattle.grid.specs.declared.sizes.SizeAnswer.{SizeAnswer}
 use Rattle.grid.proofs.Places.{sound}
-use Rattle.grid.proofs.Sized.{above, within, small}
+use Rattle.grid.proofs.Sized.{above, within, small, large}
 use Rattle.grid.proofs.Table.{both}
 use Rattle.selection.specs.Selected.{Handed, handed, highestTolerance, rightLengths, cornerVoid, refusal}
 use Rattle.selection.proofs.refusal_of.Statement.{statement}
@@ -31,11 +29,7 @@ use Rattle.selection.proofs.right_lengths.Reads as right-lengths-reads
 module _ (h : Handed) (a : SizeAnswer) (e : a ≡ sizeAnswer (h .m)) where
   size-refused : a .refusal ≢ accepted → a .refusal ≡ refusal h
   unfolding refusal
-  size-refused z = go (decLe (h .m) largest)
-    where
-      go : Dec (h .m ≤ largest) → a .refusal ≡ refusal h
-      go (yes l) = absurd (z (within (h .m) a e l .0))
-      go (no l) = let m : largest < h .m = omega arith in above (h .m) a e m ∙ sym (rw (lt-ltb largest (h .m) m))
+  size-refused z = let m = large (h .m) a e z in above (h .m) a e m ∙ sym (rw (lt-ltb largest (h .m) m))
 
   -- n entries in the two buffers that are written, and in each of the three
   abbrev written : ℕ → Bool
