@@ -22,7 +22,7 @@ module _ {A : Type 0} where
   at-in (a ∷ l) zero d h = List·Memᴰ·head refl
   at-in (a ∷ l) (suc i) d h = List·Memᴰ·tail (at-in l i d (le-of-suc-le-suc h))
 
-  in-at : {q : A} (l : List A) (d : A) → List·Memᴰ q l → (i : ℕ) × (i < length l) × (q ≡ getD l i d)
+  pub in-at : {q : A} (l : List A) (d : A) → List·Memᴰ q l → (i : ℕ) × (i < length l) × (q ≡ getD l i d)
   in-at [] d k = absurd (List·Memᴰ·not-nil k)
   in-at (a ∷ l) d k =
       ⊎-elim (λ e. (0, omega arith, e)) (λ r. let w = in-at l d r in (suc (w .0), omega (arith, w .1), w .2)) (List·Memᴰ·cases-cons k)

@@ -1,6 +1,7 @@
 pub mod Leads
 pub mod Stages
 pub mod Proper
+pub mod Pairs
 pub mod Once
 pub mod Reading
 pub mod Trapezoid

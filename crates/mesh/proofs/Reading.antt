@@ -9,23 +9,8 @@ use lib.ListN.{length, getD}
 use Rattle.grid.specs.Grid.{samples, at, point}
 use Rattle.grid.proofs.Places.{place-below, point-place}
 use Rattle.mesh.specs.Triangles.{Three, three, placesOf}
-use Rattle.mesh.specs.Rule.{Same, Proper, threeAt}
-use Rattle.mesh.proofs.Every.{at-in}
-use Rattle.mesh.proofs.Once.{Once}
-
--- triangle i of a list (beyond it, three times the south-west corner)
-abbrev pub nth : List Three → ℕ → Three
-nth ts i = getD ts i (three (at 0 0) (at 0 0) (at 0 0))
-
-pub nth-in : (ts : List Three) (i : ℕ) → i < length ts → List·Memᴰ (nth ts i) ts
-nth-in ts i l = at-in ts i (three (at 0 0) (at 0 0) (at 0 0)) l
-
--- none stands there again
-pub nth-once : (ts : List Three) → Once ts → (i j : ℕ) → i < j → j < length ts → ¬ (Same (nth ts i) (nth ts j))
-nth-once [] o i j l h = absurd (not-suc-le-zero h)
-nth-once (t ∷ ts) o i zero l h = absurd (not-suc-le-zero l)
-nth-once (t ∷ ts) o zero (suc j) l h = o .0 (nth ts j) (nth-in ts j (le-of-suc-le-suc h))
-nth-once (t ∷ ts) o (suc i) (suc j) l h = nth-once ts (o .1) i j (le-of-suc-le-suc l) (le-of-suc-le-suc h)
+use Rattle.mesh.specs.Rule.{Proper, threeAt}
+use Rattle.mesh.proofs.Pairs.{nth}
 
 -- behind one triangle's three entries
 behind : (a b c : ℕ) (l : List ℕ) (m i : ℕ) → threeAt m (a ∷ b ∷ c ∷ l) (suc i) ≡ threeAt m l i

@@ -7,20 +7,24 @@ use mathlib.Core.List.{List}
 use Prim.Native.Nat.{ℕ, _*_, _≤_, _<_}
 use native.Mathlib.Decide.{ℕ-discrete}
 use native.Mathlib.Nat.{lt-trans}
-use lib.ListN.{length, drop}
+use native.Mathlib.Omega.{arith}
+use lib.ListN.{length, length-append, getD, drop}
 use lib.IntN.{ℤ}
+use Rattle.grid.specs.Grid.{samples}
 use Rattle.grid.specs.Refusal.{accepted, noRoom}
 use Rattle.selection.specs.Selected.{Handed as SelectionHanded, Selects}
 use Rattle.selection.specs.declared.Selected.{Selected}
-use Rattle.mesh.specs.Triangles.{Three, mesh}
+use Rattle.mesh.specs.Triangles.{Three, mesh, placesOf}
 use Rattle.mesh.specs.Meshed.{Handed, handed, keptOf, entriesEach, needed, refusal, answerOf, Meshes}
 use Rattle.mesh.specs.Rule.{Turned, Untouched, Meshing, Follows, Same, threeAt, Told}
 use Rattle.mesh.specs.declared.Meshed.{Meshed}
 use Rattle.mesh.proofs.Leads.{mesh-is, mesh-only}
-use Rattle.mesh.proofs.Once.{once}
+use Rattle.mesh.proofs.Once.{Sides, differ, sides}
+use Rattle.mesh.proofs.Pairs.{nth, nth-in, nth-pairs}
 use Rattle.mesh.proofs.Proper.{proper}
 use Rattle.mesh.proofs.Numbered.{number-triangles, mesh-most}
-use Rattle.mesh.proofs.Reading.{nth, nth-in, nth-once, three-read, entry-sampled}
+use Rattle.mesh.proofs.Reading.{three-read, entry-sampled}
+use Rattle.mesh.proofs.Written.{places-long}
 use Rattle.mesh.proofs.Accepted.{made, made-only, turned, turned-only, short-closed, accepted-handed}
 use Rattle.mesh.proofs.Answered.{answering, answer-refusal, answer-taken, places-taken}
 use Rattle.mesh.proofs.Answered.{answer-short, answer-refused, places-refused}
@@ -95,37 +99,45 @@ follows {h} {r} {places′} = (
     by f (yes e) = meshing-only h r (f .turned) e (f .meshed e)
     by f (no n) = refused-only h r (f .turned) n (f .refused n)
 
--- what else holds of what an accepted call answered and wrote
+-- what an accepted call answered and wrote, as it is read: so many triangles as the mesh has, and those of the mesh, one after another
+pub record AsRead (h : Handed) (r : Meshed) (places′ : List ℕ) : Type 0 where
+  pub many : r .triangles ≡ length (mesh (h .m) (keptOf h))
+  pub read : (i : ℕ) → i < length (mesh (h .m) (keptOf h)) → threeAt (h .m) places′ i ≡ nth (mesh (h .m) (keptOf h)) i
+  pub sampled : (i : ℕ) → i < entriesEach * length (mesh (h .m) (keptOf h)) → getD places′ i 0 < samples (h .m)
+  pub long : entriesEach * length (mesh (h .m) (keptOf h)) ≤ length places′
+
+pub as-read : {h : Handed} {r : Meshed} {places′ : List ℕ} → Meshes h r places′ → r .refusal ≡ accepted → AsRead h r places′
+as-read {h} {r} {places′} s e =
+    let k = meshing s e in
+    let ts = mesh (h .m) (keptOf h) in
+    let is = mesh-only (h .m) (keptOf h) (k .uncut) in
+    let behind = drop (entriesEach * length ts) (h .places) in
+    record {
+      many = k .answer ∙ ap length is;
+      read = λ i l. rw (k .places, is) (three-read (h .m) behind ts (proper (h .m) (keptOf h)) i l);
+      sampled = λ i l. rw (k .places, is) (entry-sampled (h .m) behind ts (proper (h .m) (keptOf h)) i l);
+      long = rw (k .places, is) (omega (arith, length-append (placesOf (h .m) ts) behind, places-long (h .m) ts));
+    }
+
+-- what else holds of it
 pub told : {h : Handed} {r : Meshed} {places′ : List ℕ} → Meshes h r places′ → r .refusal ≡ accepted → Told h r places′
 told {h} {r} {places′} s e =
     record {
       number = counted s (answer-taken h (sym (number s) ∙ e));
-      most = rw many (mesh-most (h .m) (keptOf h));
-      sampled = λ i l. rw (k .places, is) (entry-sampled (h .m) behind ts (proper (h .m) (keptOf h)) i (rw many at l));
-      proper = λ i l. let below = rw many at l in rw (read i below) (proper (h .m) (keptOf h) (nth ts i) (nth-in ts i below));
+      most = rw (k .many) (mesh-most (h .m) (keptOf h));
+      sampled = λ i l. k .sampled i (rw (k .many) at l);
+      proper = λ i l. let below = rw (k .many) at l in rw (k .read i below) (proper (h .m) (keptOf h) (nth ts i) (nth-in ts i below));
       once = λ i j l b same.
-          let below = rw many at b in
-          let u = subst (λ (u : Three). Same (threeAt (h .m) places′ i) u) (read j below) same in
-          nth-once ts (once (h .m) (keptOf h)) i j l below (subst (λ (t : Three). Same t (nth ts j)) (read i (lt-trans l below)) u);
+          let below = rw (k .many) at b in
+          let u = subst (λ (u : Three). Same (threeAt (h .m) places′ i) u) (k .read j below) same in
+          differ (nth-pairs Sides ts (sides (h .m) (keptOf h)) i j l below) (subst (λ (t : Three). Same t (nth ts j)) (k .read i (lt-trans l below)) u);
     }
   where
-    k : Meshing h r places′
-    k = meshing s e
+    k : AsRead h r places′
+    k = as-read s e
 
     ts : List Three
     ts = mesh (h .m) (keptOf h)
-
-    is : k .triangles ≡ ts
-    is = mesh-only (h .m) (keptOf h) (k .uncut)
-
-    many : r .triangles ≡ length ts
-    many = k .answer ∙ ap length is
-
-    behind : List ℕ
-    behind = drop (3 * length ts) (h .places)
-
-    read : (i : ℕ) → i < length ts → threeAt (h .m) places′ i ≡ nth ts i
-    read i l = rw (k .places, is) (three-read (h .m) behind ts (proper (h .m) (keptOf h)) i l)
 
 -- of the marks that an accepted selection wrote nothing is turned down but a buffer too short
 pub selected : {h : SelectionHanded} {a : Selected} {marks : List ℕ} {heights : List ℤ} → Selects h a marks heights →
