@@ -1,7 +1,7 @@
 -- What is known of the triangle in which the walk ends: its plane at the point, whether a corner that weighs in it was filled, and that no
 -- number worked out from it is too large for a float. The weights are the walk's own; the rest is the plane's algebra.
 use mathlib.Core.Path.{_≡_, sym, ap, _∙_}
-use mathlib.Core.Bool.{Bool, true, false, not, and-eq-true-iff, true≢false}
+use mathlib.Core.Bool.{Bool, true, false, not, _&&_, _||_, and-eq-true-iff, true≢false}
 use mathlib.Core.List.{List}
 use mathlib.Core.Logic.{_⊎_, inl, inr, ⊎-elim, _↔_}
 use Prim.Native.Nat.{ℕ, _+_, _*_, _≤_}
@@ -15,10 +15,11 @@ use Rattle.grid.specs.declared.points.Point.{Point}
 use Rattle.grid.proofs.Turning.{turns, mirror}
 use Rattle.survey.specs.Filled.{sample}
 use Rattle.selection.specs.Marks.{markAt}
-use Rattle.mesh.specs.Triangles.{three, written}
+use Rattle.mesh.specs.Triangles.{Three, three, written}
 use Rattle.aim.specs.Walk.{Weighed, start}
-use Rattle.aim.specs.Aimed.{Handed, ended, asWritten, weighted, eastward, northward, fills, isFilled}
-use Rattle.aim.specs.Rule.{OnLine, Plane, queried, keptOf, Within, FilledBy, FilledCorner}
+use Rattle.aim.specs.Aimed.{Handed, ended, asWritten, weighted, eastward, northward, isFilled}
+use Rattle.aim.specs.Geometry.{OnLine, Plane, WeighsIn, SomeCorner}
+use Rattle.aim.specs.Rule.{queried, keptOf, Within, FilledCorner}
 use Rattle.aim.proofs.Either.{any}
 use Rattle.aim.proofs.Planes.{plane-of}
 use Rattle.aim.proofs.Shares.{by-reading}
@@ -41,9 +42,16 @@ same-of s a b c = (
 turn-about : {A B C : Type 0} → A ⊎ (B ⊎ C) → C ⊎ (B ⊎ A)
 turn-about o = ⊎-elim (λ x. inr (inr x)) (λ o. ⊎-elim (λ x. inr (inl x)) inl o) o
 
+-- what holds of each corner with another thing holds of one that weighs in with it
+pub with-corners : {P Q : Point → Type 0} {t : Three} {q : Point} → (P (t .first) → Q (t .first)) → (P (t .second) → Q (t .second)) →
+    (P (t .third) → Q (t .third)) → SomeCorner P t q → SomeCorner Q t q
+with-corners f g h o =
+    ⊎-elim (λ c. inl (record { weighs = c .weighs; holds = f (c .holds) }))
+    (λ o. ⊎-elim (λ c. inr (inl (record { weighs = c .weighs; holds = g (c .holds) }))) (λ c. inr (inr (record { weighs = c .weighs; holds = h (c .holds) }))) o) o
+
 module _ {m : ℕ} {q : Point} {k : ℕ} {t : Weighed} (w : Weighs m k q t) where
   -- the plane through the corners
-  plane-here : (heights : List ℤ) →
+  pub plane-here : (heights : List ℤ) →
       let t′ = written k (t .l) (t .a) (t .r) in
       Plane m heights t′ q (weighted m heights t) (eastward m heights t′) (northward m heights t′)
   unfolding weighted
@@ -58,6 +66,43 @@ module _ {m : ℕ} {q : Point} {k : ℕ} {t : Weighed} (w : Weighs m k q t) wher
       (plane-of m heights (three (t .r) (t .a) (t .l)) q (t .wr) (t .wa) (t .wl) (omega (arith, turns (w .triangle) .odd o, mirror (t .l) (t .a) (t .r)))
       (omega (arith, w .sum)) (omega (arith, w .east)) (omega (arith, w .north))))
 
+-- a test holds of a corner p of weight n, and it weighs in
+abbrev one : (Point → Bool) → ℕ → Point → Bool
+one test n p = not (eqb n 0) && test p
+
+-- of some corner
+abbrev pub weighing : (Point → Bool) → Weighed → Bool
+weighing test t = one test (t .wl) (t .l) || (one test (t .wa) (t .a) || one test (t .wr) (t .r))
+
+module _ (test : Point → Bool) (q : Point) where
+  -- a corner weighs in where the point is not on the line of the other two
+  module _ (p s r : Point) (n : ℕ) (line : OnLine s r q ↔ (n ≡ 0)) where
+    one-by : (one test n p ≡ true) ↔ WeighsIn (λ p. test p ≡ true) q p s r
+    one-by =
+        let both = and-eq-true-iff (not (eqb n 0)) (test p) in (
+          λ e. let b = both .0 e in record { weighs = λ on. true≢false (sym (b .0) ∙ rw (eq-eqb n 0 (line .0 on))); holds = b .1 },
+          λ f. both .1 (rw (ne-eqb n 0 (λ z. f .weighs (line .1 z))), f .holds),
+        )
+
+  -- which is the same from either end
+  module _ (p s r : Point) (n : ℕ) (line : OnLine s r q ↔ (n ≡ 0)) where
+    one-back : (one test n p ≡ true) ↔ WeighsIn (λ p. test p ≡ true) q p r s
+    one-back = one-by p r s n (λ on. line .0 (swap r s q on), λ z. swap s r q (line .1 z))
+
+pub weighing-here : {m : ℕ} {q : Point} {k : ℕ} {t : Weighed} → Weighs m k q t → (test : Point → Bool) →
+    (weighing test t ≡ true) ↔ SomeCorner (λ p. test p ≡ true) (written k (t .l) (t .a) (t .r)) q
+weighing-here {q = q} {k = k} {t = t} w test =
+    let three = any (one test (t .wl) (t .l)) (one test (t .wa) (t .a)) (one test (t .wr) (t .r)) in
+    let back =
+    same-of three (one-back test q (t .l) (t .a) (t .r) (t .wl) (weighs-l w)) (one-back test q (t .a) (t .r) (t .l) (t .wa) (weighs-a w))
+    (one-back test q (t .r) (t .l) (t .a) (t .wr) (weighs-r w))
+    in
+    by-reading (λ u. (weighing test t ≡ true) ↔ SomeCorner (λ p. test p ≡ true) u q) k (t .l) (t .a) (t .r)
+    (λ e.
+    same-of three (one-by test q (t .l) (t .a) (t .r) (t .wl) (weighs-l w)) (one-by test q (t .a) (t .r) (t .l) (t .wa) (weighs-a w))
+    (one-by test q (t .r) (t .l) (t .a) (t .wr) (weighs-r w)))
+    (λ o. (λ f. turn-about (back .0 f), λ c. back .1 (turn-about c)))
+
 module _ (h : Handed) (w : Within h) where
   pub weighs : Weighs (h .m) (ended h .left) (queried h) (ended h .triangle)
   unfolding ended
@@ -71,32 +116,6 @@ module _ (h : Handed) (w : Within h) where
       (eastward (h .m) (h .heights) (asWritten (ended h))) (northward (h .m) (h .heights) (asWritten (ended h)))
   plane = plane-here weighs (h .heights)
 
-  -- a corner that weighs in the answer was filled
-  module _ (p s r : Point) (n : ℕ) (line : OnLine s r (queried h) ↔ (n ≡ 0)) where
-    fills-by : (fills n (markAt (h .m) (h .marks) p) ≡ true) ↔ FilledBy h p s r
-    fills-by =
-        let both = and-eq-true-iff (not (eqb n 0)) (filledMark (markAt (h .m) (h .marks) p)) in (
-          λ e. let b = both .0 e in record { weighs = λ on. true≢false (sym (b .0) ∙ rw (eq-eqb n 0 (line .0 on))); mark = b .1 },
-          λ f. both .1 (rw (ne-eqb n 0 (λ z. f .weighs (line .1 z))), f .mark),
-        )
-
-  -- the corner's line is that of the other two, from either end
-  module _ (p s r : Point) (n : ℕ) (line : OnLine s r (queried h) ↔ (n ≡ 0)) where
-    fills-back : (fills n (markAt (h .m) (h .marks) p) ≡ true) ↔ FilledBy h p r s
-    fills-back = fills-by p r s n (λ on. line .0 (swap r s (queried h) on), λ z. swap s r (queried h) (line .1 z))
-
   pub filled-here : (isFilled (h .m) (h .marks) (ended h .triangle) ≡ true) ↔ FilledCorner h (asWritten (ended h))
   unfolding isFilled
-  filled-here =
-      let t = ended h .triangle in
-      let one : ℕ → Point → Bool = λ n p. fills n (markAt (h .m) (h .marks) p) in
-      let three = any (one (t .wl) (t .l)) (one (t .wa) (t .a)) (one (t .wr) (t .r)) in
-      let back =
-      same-of three (fills-back (t .l) (t .a) (t .r) (t .wl) (weighs-l weighs)) (fills-back (t .a) (t .r) (t .l) (t .wa) (weighs-a weighs))
-      (fills-back (t .r) (t .l) (t .a) (t .wr) (weighs-r weighs))
-      in
-      by-reading (λ u. (isFilled (h .m) (h .marks) t ≡ true) ↔ FilledCorner h u) (ended h .left) (t .l) (t .a) (t .r)
-      (λ e.
-      same-of three (fills-by (t .l) (t .a) (t .r) (t .wl) (weighs-l weighs)) (fills-by (t .a) (t .r) (t .l) (t .wa) (weighs-a weighs))
-      (fills-by (t .r) (t .l) (t .a) (t .wr) (weighs-r weighs)))
-      (λ o. (λ f. turn-about (back .0 f), λ c. back .1 (turn-about c)))
+  filled-here = weighing-here weighs (λ p. filledMark (markAt (h .m) (h .marks) p))

@@ -17,7 +17,8 @@ use Rattle.mesh.specs.Triangles.{written}
 use Rattle.mesh.specs.Rule.{CutAt}
 use Rattle.mesh.proofs.Leads.{no-midpoint, at-halfway, one-midpoint}
 use Rattle.aim.specs.Walk.{Weighed, Under, under, start, half, cutOf, walk, met}
-use Rattle.aim.specs.Rule.{Contains, Passes, first, second, firstHalf, secondHalf, Meets, Ends}
+use Rattle.aim.specs.Geometry.{Contains}
+use Rattle.aim.specs.Rule.{Passes, first, second, firstHalf, secondHalf, Meets, Ends}
 use Rattle.aim.proofs.Weights.{Weighs, started, half-first, half-second, halved, first-contains, start-contains}
 
 -- cuts made and left are 2m in all, so both are odd or both even, and a triangle is written in the same order by either

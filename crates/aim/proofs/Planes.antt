@@ -16,7 +16,7 @@ use Rattle.mesh.specs.Triangles.{Three}
 use Rattle.selection.proofs.Exact as exact
 use Rattle.selection.proofs.Exact.{Exact}
 use Rattle.aim.specs.Aimed.{tilt, eastward, northward}
-use Rattle.aim.specs.Rule.{Through, Plane, area}
+use Rattle.aim.specs.Geometry.{Through, Plane, area}
 use Rattle.aim.proofs.Differences.{Difference, over, under, whole, count, sum, difference, product, multiple, by, equal, apart, size}
 
 sized : (z : ℤ) {n : ℕ} → natAbs z ≤ n → Exact z z n

@@ -24,7 +24,8 @@ use Rattle.aim.specs.Quotient.{format, plusZero, Exactly}
 use Rattle.aim.specs.Walk.{Weighed}
 use Rattle.aim.specs.Aimed.{Handed, ended, cornersOf, refusal, asWritten, weighted, eastward, northward, isFilled, heightIn, groundIn, noGround}
 use Rattle.aim.specs.Aimed.{Origin, nowhere, surveyed, filled, Said, says, said, heightAt, planeAt}
-use Rattle.aim.specs.Rule.{queried, area, FilledCorner, Ground, Answered, FollowsHeight, Grounded, FollowsPlane, Told}
+use Rattle.aim.specs.Geometry.{area}
+use Rattle.aim.specs.Rule.{queried, FilledCorner, Ground, Answered, FollowsHeight, Grounded, FollowsPlane, Told}
 use Rattle.aim.specs.declared.HeightAnswer.{HeightAnswer}
 use Rattle.aim.specs.declared.HeightAnswer.the-variants.{Surveyed, Filled, Refused}
 use Rattle.aim.specs.declared.PlaneAnswer.{PlaneAnswer}
@@ -46,11 +47,11 @@ kind filled = 2
 apart : {r r′ : Said} → r ≡ r′ → kind (r .origin) ≡ kind (r′ .origin)
 apart e = ap (λ (s : Said). kind (s .origin)) e
 
-origin-filled : (b : Bool) → (cond b filled surveyed ≡ filled) ↔ (b ≡ true)
+pub origin-filled : (b : Bool) → (cond b filled surveyed ≡ filled) ↔ (b ≡ true)
 origin-filled true = (λ e. refl, λ e. refl)
 origin-filled false = (λ e. absurd (omega (arith, ap kind e)), λ e. absurd (true≢false (sym e)))
 
-origin-surveyed : (b : Bool) → (cond b filled surveyed ≡ surveyed) ↔ ¬ (b ≡ true)
+pub origin-surveyed : (b : Bool) → (cond b filled surveyed ≡ surveyed) ↔ ¬ (b ≡ true)
 origin-surveyed true = (λ e. absurd (omega (arith, ap kind e)), λ n. absurd (n refl))
 origin-surveyed false = (λ e t. true≢false (sym t), λ n. refl)
 

@@ -1,7 +1,7 @@
 -- With the marks and heights that an accepted selection wrote no point of the square is turned down: the marks are good, and no filled
 -- height is void. By document 01's sentences about selection, which any selection meets.
 use mathlib.Core.Path.{_≡_, sym, ap, _∙_}
-use mathlib.Core.Bool.{false, true≢false}
+use mathlib.Core.Bool.{true, false, true≢false}
 use mathlib.Core.List.{List}
 use mathlib.Core.Logic.{⊎-elim, _↔_}
 use Prim.Native.Nat.{ℕ, _≤_}
@@ -18,12 +18,14 @@ use Rattle.selection.specs.Selected.{Handed as SelectionHanded, Selects}
 use Rattle.selection.specs.declared.Selected.{Selected}
 use Rattle.selection.proofs.Accepted.{accepted-handed, turned-only as selected-only}
 use Rattle.selection.proofs.Rule.{turned-down, selection}
+use Rattle.mesh.specs.Triangles.{Three}
 use Rattle.aim.specs.Aimed.{Handed, handed, refusal, Said, said, heightAt, planeAt}
-use Rattle.aim.specs.Rule.{Within, Good, VoidAt, FilledBy, VoidBy, nothing}
+use Rattle.aim.specs.Geometry.{SomeCorner}
+use Rattle.aim.specs.Rule.{Within, Good, VoidAt, queried, FilledCorner, nothing}
 use Rattle.aim.specs.declared.HeightAnswer.{HeightAnswer}
 use Rattle.aim.specs.declared.PlaneAnswer.{PlaneAnswer}
 use Rattle.aim.proofs.Accepted.{turned-only, end}
-use Rattle.aim.proofs.Grounds.{weighs}
+use Rattle.aim.proofs.Grounds.{weighs, with-corners}
 use Rattle.aim.proofs.Answered.{height-number, plane-number}
 
 module _ {s : SelectionHanded} {a : Selected} {marks : List ℕ} {heights : List ℤ} (small : Sixteen (s .survey))
@@ -66,10 +68,11 @@ module _ {s : SelectionHanded} {a : Selected} {marks : List ℕ} {heights : List
     pub plane-selected : (r : PlaneAnswer) → r ≡ planeAt asked → r .refusal ≡ accepted
     plane-selected r e = ap (λ (t : PlaneAnswer). t .refusal) e ∙ plane-number asked ∙ selected
 
-    -- and a corner makes an answer filled just where it weighs in it and was void in the survey
-    pub filled-void : (p l r : Point) → Inside (s .m) p → FilledBy asked p l r ↔ VoidBy asked (s .survey) p l r
-    filled-void p l r i =
-        let same = selection k ok .voidMarks p i in (
-          λ f. record { weighs = f .weighs; lacks = sym same ∙ f .mark },
-          λ v. record { weighs = v .weighs; mark = same ∙ v .lacks },
+    -- and a triangle's corners make an answer filled just where one that weighs in it was void in the survey
+    pub filled-void : (t : Three) → Inside (s .m) (t .first) → Inside (s .m) (t .second) → Inside (s .m) (t .third) →
+        FilledCorner asked t ↔ SomeCorner (λ p. isVoid (sample (s .m) (s .survey) p) ≡ true) t (queried asked)
+    filled-void t i j l =
+        let same = selection k ok .voidMarks in (
+          λ f. with-corners (λ e. sym (same (t .first) i) ∙ e) (λ e. sym (same (t .second) j) ∙ e) (λ e. sym (same (t .third) l) ∙ e) f,
+          λ v. with-corners (λ e. same (t .first) i ∙ e) (λ e. same (t .second) j ∙ e) (λ e. same (t .third) l ∙ e) v,
         )

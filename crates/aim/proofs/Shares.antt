@@ -13,7 +13,7 @@ use Rattle.grid.specs.declared.points.Point.{Point}
 use Rattle.grid.proofs.Parity.{even-false, odd-true}
 use Rattle.mesh.specs.Triangles.{Three, three, written}
 use Rattle.mesh.proofs.Proper.{flat-second, flat-third}
-use Rattle.aim.specs.Rule.{quartered, OnLeft, OnLine, Contains, Share, Barycentric, area}
+use Rattle.aim.specs.Geometry.{quartered, OnLeft, OnLine, Contains, Share, Barycentric, area}
 
 -- by the weights u, v and w the numbers f, s and t add up to n times q
 record Averages (n u v w f s t q : ℕ) : Type 0 where

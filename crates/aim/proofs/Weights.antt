@@ -16,7 +16,7 @@ use Rattle.grid.proofs.Cutting.{Halfway, cut}
 use Rattle.grid.proofs.Turning.{right-sum, halfway, turns, mirror}
 use Rattle.grid.proofs.Parity.{even-false}
 use Rattle.mesh.specs.Triangles.{three, written}
-use Rattle.aim.specs.Rule.{OnLine, Contains, Share, Barycentric, area}
+use Rattle.aim.specs.Geometry.{OnLine, Contains, Share, Barycentric, area}
 use Rattle.aim.proofs.Shares.{by-reading, barycentric, share-line, share-strict, share-contains}
 use Rattle.aim.specs.Walk.{Weighed, start, cutOf, half, under, walk}
 
@@ -31,23 +31,46 @@ pub record Weighs (m k : ℕ) (q : Point) (t : Weighed) : Type 0 where
 parted : (u v n : ℕ) → v ≤ u → (u - v) * n + v * n ≡ n * u
 parted u v n h = let e : u - v + v ≡ u = omega arith in sym (add-mul (u - v) v n) ∙ ap (λ (w : ℕ). w * n) e ∙ mul-comm u n
 
-pub started : (m : ℕ) (q : Point) → q .x ≤ inQuarters m → q .y ≤ inQuarters m → Weighs m (2 * m) q (start m q)
+-- in the first starting triangle, where the point lies on the diagonal or south-east of it, and in the second
+abbrev pub inFirst : ℕ → Point → Weighed
+inFirst m q =
+    record { l = at 0 0; a = at (side m) 0; r = at (side m) (side m); wl = inQuarters m - q .x; wa = q .x - q .y; wr = q .y }
+
+abbrev pub inSecond : ℕ → Point → Weighed
+inSecond m q =
+    record { l = at (side m) (side m); a = at 0 (side m); r = at 0 0; wl = q .x; wa = q .y - q .x; wr = inQuarters m - q .y }
+
+module _ (m : ℕ) (q : Point) (e : q .x ≤ inQuarters m) (n : q .y ≤ inQuarters m) where
+  pub started-first : q .y ≤ q .x → Weighs m (2 * m) q (inFirst m q)
+  started-first h = record {
+    triangle = first;
+    sum = omega arith;
+    east = omega (arith, parted (q .x) (q .y) (side m) h, mul-zero (inQuarters m - q .x));
+    north = omega (arith, mul-zero (inQuarters m - q .x), mul-zero (q .x - q .y), mul-comm (q .y) (side m));
+  }
+
+  pub started-second : q .x ≤ q .y → Weighs m (2 * m) q (inSecond m q)
+  started-second h = record {
+    triangle = second;
+    sum = omega arith;
+    east = omega (arith, mul-zero (inQuarters m - q .y), mul-zero (q .y - q .x), mul-comm (q .x) (side m));
+    north = omega (arith, parted (q .y) (q .x) (side m) h, mul-zero (inQuarters m - q .y));
+  }
+
+pub start-first : (m : ℕ) (q : Point) → q .y ≤ q .x → start m q ≡ inFirst m q
 unfolding start
+start-first m q h = rw (le-leb (q .y) (q .x) h)
+
+pub start-second : (m : ℕ) (q : Point) → q .x < q .y → start m q ≡ inSecond m q
+unfolding start
+start-second m q h = rw (lt-leb (q .y) (q .x) h)
+
+pub started : (m : ℕ) (q : Point) → q .x ≤ inQuarters m → q .y ≤ inQuarters m → Weighs m (2 * m) q (start m q)
 started m q e n = by (decLe (q .y) (q .x))
   where
     by : Dec (q .y ≤ q .x) → Weighs m (2 * m) q (start m q)
-    by (yes h) = rw (le-leb (q .y) (q .x) h) (record {
-      triangle = first;
-      sum = omega arith;
-      east = omega (arith, parted (q .x) (q .y) (side m) h, mul-zero (inQuarters m - q .x));
-      north = omega (arith, mul-zero (inQuarters m - q .x), mul-zero (q .x - q .y), mul-comm (q .y) (side m));
-    })
-    by (no h) = rw (lt-leb (q .y) (q .x) (omega arith)) (record {
-      triangle = second;
-      sum = omega arith;
-      east = omega (arith, mul-zero (inQuarters m - q .y), mul-zero (q .y - q .x), mul-comm (q .x) (side m));
-      north = omega (arith, parted (q .y) (q .x) (side m) (omega arith), mul-zero (inQuarters m - q .y));
-    })
+    by (yes h) = rw (start-first m q h) (started-first m q e n h)
+    by (no h) = let l : q .x < q .y = omega arith in rw (start-second m q l) (started-second m q e n (omega arith))
 
 -- along one axis: what v weighs, and as much of u's weight, goes to their midpoint c
 moved : (c u v b wu wv wb : ℕ) → 2 * c ≡ u + v → wv ≤ wu → (wu - wv) * u + 2 * wv * c + wb * b ≡ wu * u + wb * b + wv * v
@@ -73,7 +96,7 @@ module _ {m k : ℕ} {q : Point} {t : Weighed} (w : Weighs m (suc k) q t) where
   middle : Halfway (cutOf t) (t .l) (t .r)
   middle = halfway (cut (w .triangle))
 
-  halved-first : t .wr ≤ t .wl → Weighs m k q (firstOf t)
+  pub halved-first : t .wr ≤ t .wl → Weighs m k q (firstOf t)
   halved-first h = record {
     triangle = firstHalf (w .triangle);
     sum = omega (arith, w .sum);
@@ -81,7 +104,7 @@ module _ {m k : ℕ} {q : Point} {t : Weighed} (w : Weighs m (suc k) q t) where
     north = moved (cutOf t .y) (t .l .y) (t .r .y) (t .a .y) (t .wl) (t .wr) (t .wa) (middle .north) h ∙ w .north;
   }
 
-  halved-second : t .wl < t .wr → Weighs m k q (secondOf t)
+  pub halved-second : t .wl ≤ t .wr → Weighs m k q (secondOf t)
   halved-second h =
       let c = middle in
       record {
@@ -183,7 +206,7 @@ module _ {m k : ℕ} {q : Point} {t : Weighed} (w : Weighs m k q t) where
 beyond-first : {m k : ℕ} {q : Point} {t : Weighed} → Weighs m (suc k) q t → t .wl < t .wr → ¬ (Contains (written k (t .l) (cutOf t) (t .a)) q)
 beyond-first {m} {k} {q} {t} w h =
     let c = cutOf t in
-    let u = halved-second w h in
+    let u = halved-second w (omega arith) in
     by-reading (λ v. ¬ (Contains v q)) k (t .l) c (t .a)
     (λ e i.
     share-strict m (three (t .a) c (t .r)) q (t .a) c (t .wr - t .wl) (barycentric-even u e .thirdTurn) (even-area u e) (omega arith)
@@ -200,6 +223,27 @@ first-contains {m} {k} {q} {t} w = (by (decLe (t .wr) (t .wl)), λ h. contained 
     by : Dec (t .wr ≤ t .wl) → Contains (written k (t .l) (cutOf t) (t .a)) q → t .wr ≤ t .wl
     by (yes h) i = h
     by (no h) i = absurd (beyond-first w (omega arith) i)
+
+-- and the second exactly where it weighs no more
+beyond-second : {m k : ℕ} {q : Point} {t : Weighed} → Weighs m (suc k) q t → t .wr < t .wl → ¬ (Contains (written k (t .a) (cutOf t) (t .r)) q)
+beyond-second {m} {k} {q} {t} w h =
+    let c = cutOf t in
+    let u = halved-first w (omega arith) in
+    by-reading (λ v. ¬ (Contains v q)) k (t .a) c (t .r)
+    (λ e i.
+    share-strict m (three (t .l) c (t .a)) q c (t .a) (t .wl - t .wr) (barycentric-even u e .firstTurn) (even-area u e) (omega arith)
+    (i .first))
+    (λ o i.
+    share-strict m (three (t .a) c (t .l)) q (t .a) c (t .wl - t .wr) (barycentric-odd u o .thirdTurn) (odd-area u o) (omega arith)
+    (i .second))
+
+pub second-contains : {m k : ℕ} {q : Point} {t : Weighed} → Weighs m (suc k) q t →
+    Contains (written k (t .a) (cutOf t) (t .r)) q ↔ (t .wl ≤ t .wr)
+second-contains {m} {k} {q} {t} w = (by (decLe (t .wl) (t .wr)), λ h. contained (halved-second w h))
+  where
+    by : Dec (t .wl ≤ t .wr) → Contains (written k (t .a) (cutOf t) (t .r)) q → t .wl ≤ t .wr
+    by (yes h) i = h
+    by (no h) i = absurd (beyond-second w (omega arith) i)
 
 -- and the first starting triangle on the diagonal and south-east of it
 pub start-contains : (m : ℕ) (q : Point) → q .x ≤ inQuarters m → q .y ≤ inQuarters m →

@@ -1,9 +1,8 @@
 -- Document 01's sentences about the height and the ground plane at a point. For heights of 16 bits, as the code's are, a call meets its
--- promise just where `FollowsHeight`, or `FollowsPlane`, holds; these speak of plain geometry, turns in whole numbers, with no weights and no
--- rounding. Of an answered call `Told` holds besides. Definitions only.
+-- promise just where `FollowsHeight`, or `FollowsPlane`, holds; these speak of plain geometry (`Geometry`), with no weights and no rounding. Of an
+-- answered call `Told` holds besides. Definitions only.
 use mathlib.Core.Path.{_≡_}
 use mathlib.Core.Bool.{Bool, true}
-use mathlib.Core.List.{List}
 use mathlib.Core.Logic.{_⊎_, _↔_, _≢_}
 use Prim.Native.Nat.{ℕ, suc, _+_, _-_, _*_, _^_, _%_, _≤_, _<_}
 use lib.ListN.{length}
@@ -13,7 +12,6 @@ use Rattle.grid.specs.Grid.{highest, quarters, largest, side, samples, inQuarte
 use Rattle.grid.specs.Points.{isCorner}
 use Rattle.grid.specs.Mark.{goodMark, filledMark}
 use Rattle.grid.specs.Refusal.{accepted, sizeAbove, wrongLength, voidCorner, pointBeyond, badMark}
-use Rattle.grid.specs.Turn.{onward, backward}
 use Rattle.grid.specs.declared.points.Point.{Point}
 use Rattle.survey.specs.Filled.{sample}
 use Rattle.selection.specs.Marks.{markAt}
@@ -21,27 +19,10 @@ use Rattle.mesh.specs.Triangles.{Three, three, written}
 use Rattle.mesh.specs.Closed.{keptBy}
 use Rattle.mesh.specs.Rule.{CutAt}
 use Rattle.aim.specs.Quotient.{format, plusZero, Exactly}
+use Rattle.aim.specs.Geometry.{OfSquare, Contains, area, Plane, SomeCorner, Barycentric}
 use Rattle.aim.specs.Aimed.{Handed, ended, Origin, surveyed, filled, said}
 use Rattle.aim.specs.declared.HeightAnswer.{HeightAnswer}
 use Rattle.aim.specs.declared.PlaneAnswer.{PlaneAnswer}
-
--- a sample's point, given in quarter cells
-abbrev pub quartered : Point → Point
-quartered p = at (quarters * p .x) (quarters * p .y)
-
--- from sample p to sample s, the point q, in quarter cells, lies to the left or on the line
-abbrev pub OnLeft : Point → Point → Point → Type 0
-OnLeft p s q = backward (quartered p) (quartered s) q ≤ onward (quartered p) (quartered s) q
-
--- and on the line
-abbrev pub OnLine : Point → Point → Point → Type 0
-OnLine p s q = onward (quartered p) (quartered s) q ≡ backward (quartered p) (quartered s) q
-
--- a triangle, its corners in counter-clockwise order, contains a point given in quarter cells, its border counted
-pub record Contains (t : Three) (q : Point) : Type 0 where
-  pub first : OnLeft (t .first) (t .second) q
-  pub second : OnLeft (t .second) (t .third) q
-  pub third : OnLeft (t .third) (t .first) q
 
 -- The triangles (l, a, r), each made by so many cuts, that the walk to a point passes through. It goes to the first starting triangle, or
 -- to the first half, where that contains the point, its border counted, and else to the second; so on the diagonal to the first
@@ -84,10 +65,9 @@ pub record Lengths (h : Handed) : Type 0 where
   pub marks : length (h .marks) ≡ samples (h .m)
   pub heights : length (h .heights) ≡ samples (h .m)
 
--- the point lies from 0 to 4N each way
-pub record Within (h : Handed) : Type 0 where
-  pub east : h .x ≤ inQuarters (h .m)
-  pub north : h .y ≤ inQuarters (h .m)
+-- the queried point lies in the square
+abbrev pub Within : Handed → Type 0
+Within h = OfSquare (h .m) (queried h)
 
 -- the mark at a point is good: 3 at a grid corner and 0, 1, 2, 4, 6 elsewhere
 abbrev pub GoodAt : Handed → Point → Type 0
@@ -123,38 +103,13 @@ pub data Turned (h : Handed) : ℕ → Type 0 where
   nothing : h .m ≤ largest → Lengths h → Within h → Good h → {cuts : ℕ} {l a r : Point} → Ends (h .m) (keptOf h) (queried h) cuts l a r →
       ¬ (VoidCorner h l a r) → Turned h accepted
 
--- the doubled area of a triangle, its corners in counter-clockwise order
-abbrev pub area : Three → ℕ
-area t = onward (t .first) (t .second) (t .third) - backward (t .first) (t .second) (t .third)
-
--- A plane, given by its height z / 4N at the point q, in quarter cells, and its slopes e / d east and n / d north, in units per cell. At a
--- sample it has the height that stands there: z / 4N + (e / d) (x - q.x / 4) + (n / d) (y - q.y / 4), multiplied out by 4N and d.
-abbrev pub Through : ℕ → List ℤ → Point → ℤ → ℤ → ℤ → ℕ → Point → Type 0
-Through m heights q z e n d p =
-    pos d *ℤ z +ℤ pos (side m) *ℤ (e *ℤ pos (quarters * p .x) +ℤ n *ℤ pos (quarters * p .y))
-    ≡ pos d *ℤ (pos (inQuarters m) *ℤ sample m heights p) +ℤ pos (side m) *ℤ (e *ℤ pos (q .x) +ℤ n *ℤ pos (q .y))
-
--- the plane through the three corners of a triangle: z its height at q times 4N, e and n its slopes times the triangle's doubled area
-pub record Plane (m : ℕ) (heights : List ℤ) (t : Three) (q : Point) (z e n : ℤ) : Type 0 where
-  pub first : Through m heights q z e n (area t) (t .first)
-  pub second : Through m heights q z e n (area t) (t .second)
-  pub third : Through m heights q z e n (area t) (t .third)
-
--- a corner p weighs in the answer, its weight is other than zero, where the point is not on the line through the other two; and its mark
--- is 4 or more
-pub record FilledBy (h : Handed) (p s w : Point) : Type 0 where
-  pub weighs : ¬ (OnLine s w (queried h))
-  pub mark : filledMark (markAt (h .m) (h .marks) p) ≡ true
-
--- a corner p weighs in the answer, and was void in the survey
-pub record VoidBy (h : Handed) (survey : List ℤ) (p s w : Point) : Type 0 where
-  pub weighs : ¬ (OnLine s w (queried h))
-  pub lacks : isVoid (sample (h .m) survey p) ≡ true
+-- the mark at a point is 4 or more
+abbrev pub FilledAt : Handed → Point → Type 0
+FilledAt h p = filledMark (markAt (h .m) (h .marks) p) ≡ true
 
 -- a corner with a weight other than zero carries a mark of 4 or more
 abbrev pub FilledCorner : Handed → Three → Type 0
-FilledCorner h t = FilledBy h (t .first) (t .second) (t .third)
-    ⊎ (FilledBy h (t .second) (t .third) (t .first) ⊎ FilledBy h (t .third) (t .first) (t .second))
+FilledCorner h t = SomeCorner (FilledAt h) t (queried h)
 
 -- The triangle that the walk ends in, as it is written, and the plane through its corners: the height there times 4N, and its slopes times
 -- its doubled area.
@@ -175,23 +130,6 @@ pub record Answered (h : Handed) (o : Origin) (x : Float) : Type 0 where
   pub exactly : Exactly format (ground .z) (inQuarters (h .m)) x
   pub isFilled : (o ≡ filled) ↔ FilledCorner h (written (ground .cuts) (ground .l) (ground .a) (ground .r))
   pub isSurveyed : (o ≡ surveyed) ↔ ¬ (FilledCorner h (written (ground .cuts) (ground .l) (ground .a) (ground .r)))
-
--- A weight w is to 4N as the doubled area of the point and the corners p and s is to that of the triangle. The former is counted in quarter
--- cells, 16 to one, so N times it is 4 times the triangle's by the weight.
-abbrev pub Share : ℕ → Three → Point → Point → Point → ℕ → Type 0
-Share m t q p s w =
-    side m * onward (quartered p) (quartered s) q ≡ side m * backward (quartered p) (quartered s) q + quarters * (area t * w)
-
--- The weights of a point, given in quarter cells, at the corners of a triangle, these in counter-clockwise order: whole numbers that add up
--- to 4N, by which the point is the mean of the corners; and each is to 4N as the doubled area of the point and the other two corners is
--- to that of the triangle (in quarter cells: 16 times the triangle's own).
-pub record Barycentric (m : ℕ) (t : Three) (q : Point) (first second third : ℕ) : Type 0 where
-  pub sum : first + second + third ≡ inQuarters m
-  pub east : first * t .first .x + second * t .second .x + third * t .third .x ≡ side m * q .x
-  pub north : first * t .first .y + second * t .second .y + third * t .third .y ≡ side m * q .y
-  pub firstTurn : Share m t q (t .second) (t .third) first
-  pub secondTurn : Share m t q (t .third) (t .first) second
-  pub thirdTurn : Share m t q (t .first) (t .second) third
 
 -- a call of height follows document 01 (a refusal has no place for a height)
 pub record FollowsHeight (h : Handed) (r : HeightAnswer) : Type 0 where
