@@ -1,0 +1,14 @@
+pub mod Restricted
+pub mod Trace
+pub mod Landings
+pub mod Within
+pub mod Contained
+pub mod Agreement
+pub mod Means
+pub mod Given
+pub mod Apart
+pub mod Parted
+pub mod Areas
+pub mod Parts
+pub mod OneMesh
+pub mod Surface

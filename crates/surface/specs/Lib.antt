@@ -1,0 +1,2 @@
+pub mod Surface
+pub mod OneMesh
