@@ -1,0 +1,4 @@
+pub mod Bytes
+pub mod Frame
+pub mod Rule
+pub mod Inner
