@@ -1,0 +1,10 @@
+pub mod Answered
+pub mod Enough
+pub mod Printed
+pub mod Rule
+pub mod Promised
+pub mod Seen
+pub mod Joined
+pub mod Spelt
+pub mod Held
+pub mod Values

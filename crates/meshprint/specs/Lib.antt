@@ -1,0 +1,4 @@
+pub mod Program
+pub mod Text
+pub mod Rule
+pub mod Inner
