@@ -1,0 +1,44 @@
+-- No second answer, of the contracts as the code states them: any two outcomes that meet the contract of a public call, as the checker has it, for the same arguments are the
+-- same, the answer and every lent buffer at exit.
+use mathlib.Core.Path.{_≡_}
+use Prim.Native.Nat.{ℕ}
+use denote.Ref.{now}
+use Rattle.grid.specs.declared.sizes.SizeAnswer.{SizeAnswer}
+use Rattle.grid.proofs.sizes.size_of.Reads as size-of
+use Rattle.selection.specs.declared.Selected.{Selected}
+use Rattle.selection.proofs.select.Reads as select
+use Rattle.mesh.specs.declared.Meshed.{Meshed}
+use Rattle.mesh.proofs.triangles.Reads as triangles
+use Rattle.aim.specs.declared.HeightAnswer.{HeightAnswer}
+use Rattle.aim.specs.declared.PlaneAnswer.{PlaneAnswer}
+use Rattle.aim.proofs.height.Reads as height
+use Rattle.aim.proofs.plane.Reads as plane
+use Rattle.frame.specs.declared.Frame.{Frame}
+use Rattle.frame.proofs.read.Reads as read
+use Rattle.frame.proofs.heights.Reads as heights
+use Rattle.settled.specs.Unique.{SameSelection, SameTriangles, SameSurvey}
+use Rattle.settled.proofs.Unique.{no-second}
+
+pub select-once : (k : _) (a : _) (r r′ : Selected) (o o′ : _) → select.Learnt k a r o → select.Learnt k a r′ o′ →
+    SameSelection r r′ (now (o .1 .1 .1 .0)) (now (o′ .1 .1 .1 .0)) (now (o .1 .1 .1 .1 .0)) (now (o′ .1 .1 .1 .1 .0))
+select-once k a r r′ o o′ p q = no-second .select _ r r′ _ _ _ _ p q
+
+pub triangles-once : (k : _) (a : _) (r r′ : Meshed) (o o′ : _) → triangles.Learnt k a r o → triangles.Learnt k a r′ o′ →
+    SameTriangles r r′ (now (o .1 .1 .0)) (now (o′ .1 .1 .0))
+triangles-once k a r r′ o o′ p q = no-second .triangles _ r r′ _ _ p q
+
+pub height-once : (k : _) (a : _) (r r′ : HeightAnswer) (o o′ : _) → height.Learnt k a r o → height.Learnt k a r′ o′ → r ≡ r′
+height-once k a r r′ o o′ p q = no-second .height _ r r′ p q
+
+pub plane-once : (k : _) (a : _) (r r′ : PlaneAnswer) (o o′ : _) → plane.Learnt k a r o → plane.Learnt k a r′ o′ → r ≡ r′
+plane-once k a r r′ o o′ p q = no-second .plane _ r r′ p q
+
+pub read-once : (k : _) (a : _) (r r′ : Frame) (o o′ : _) → read.Learnt k a r o → read.Learnt k a r′ o′ → r ≡ r′
+read-once k a r r′ o o′ p q = no-second .read _ r r′ p q
+
+pub heights-once : (k : _) (a : _) (r r′ : ℕ) (o o′ : _) → heights.Learnt k a r o → heights.Learnt k a r′ o′ →
+    SameSurvey r r′ (now (o .1 .0)) (now (o′ .1 .0))
+heights-once k a r r′ o o′ p q = no-second .heights _ r r′ _ _ p q
+
+pub size-once : (k : _) (a : _) (r r′ : SizeAnswer) (o o′ : _) → size-of.Learnt k a r o → size-of.Learnt k a r′ o′ → r ≡ r′
+size-once k a r r′ o o′ p q = no-second .size (a .0) r r′ p q
