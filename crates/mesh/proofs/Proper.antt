@@ -53,7 +53,7 @@ module _ {m : ℕ} {Q : ℕ → ℕ → Point → Point → Point → Type 0} (i
 
 -- three points have no area between them where two of them are the same
 module _ (p q : Point) where
-  flat-first : onward p p q ≡ backward p p q
+  pub flat-first : onward p p q ≡ backward p p q
   flat-first = omega (arith, mul-comm (p .x) (p .y), mul-comm (p .x) (q .y), mul-comm (p .y) (q .x))
 
   pub flat-second : onward p q q ≡ backward p q q

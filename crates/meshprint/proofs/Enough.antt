@@ -10,20 +10,18 @@ use lib.ListN.{length}
 use lib.Pow.{pow-mono}
 use Rattle.grid.specs.Refusal.{accepted}
 use Rattle.grid.specs.Sizes.{sizeOf}
-use Rattle.frame.specs.Frame.{largest, sizeIn}
+use Rattle.frame.specs.Frame.{largest}
 use Rattle.frame.specs.Frame.{refusal as formRefusal}
 use Rattle.frame.proofs.Accepted.{accepted-input}
 use Rattle.selection.specs.Selected.{marksBy, heightsAfter, Selects}
 use Rattle.selection.specs.Selected.{answerOf as selectionAnswer, refusal as selectionRefusal}
 use Rattle.selection.proofs.Answered.{marks-taken}
 use Rattle.selection.proofs.Answered.{answer-refusal as selection-refusal}
-use Rattle.selection.proofs.Rule.{selection}
-use Rattle.mesh.specs.Meshed.{entriesEach, keptOf, needed}
+use Rattle.mesh.specs.Meshed.{entriesEach, needed}
 use Rattle.mesh.specs.Meshed.{refusal as meshRefusal}
 use Rattle.mesh.specs.declared.Meshed.{Meshed}
 use Rattle.mesh.proofs.Answered.{answer-refusal as mesh-refusal}
-use Rattle.mesh.proofs.Numbered.{number-triangles, mesh-most}
-use Rattle.mesh.proofs.Selected.{selected-room}
+use Rattle.mesh.proofs.Selected.{selected-room, room-enough}
 use Rattle.meshprint.specs.Program.{selected, refusal, meshed, answerOf}
 use Rattle.meshprint.specs.Inner.{Roomy}
 use Rattle.meshprint.proofs.Answered.{refusal-form, refusal-selection, answer-taken, answer-refused}
@@ -52,15 +50,7 @@ module _ (input places : List ℕ) (room : Roomy places) where
     answered = selection-refusal (selected input) ∙ chosen
 
     fits : entriesEach * needed (meshed input places) ≤ length places
-    fits =
-        let kept = keptOf (meshed input places) in
-        omega (
-          arith,
-          room,
-          number-triangles (sizeIn input) kept (selection selects answered .least .closed),
-          mesh-most (sizeIn input) kept,
-          triangles-most (accepted-input input (formed input ok) .small),
-        )
+    fits = room-enough selects answered places (omega (arith, room, triangles-most (accepted-input input (formed input ok) .small)))
 
     written : meshRefusal (meshed input places) ≡ accepted
     written = selected-room selects answered places fits

@@ -5,8 +5,8 @@ use native.Mathlib.Omega.{arith}
 use Rattle.grid.specs.declared.points.Point.{Point}
 use Rattle.mesh.specs.Triangles.{Three}
 use Rattle.mesh.proofs.Once.{Beside, each, Sides, back}
+use Rattle.mesh.proofs.Proper.{flat-first}
 use Rattle.surface.specs.Surface.{Parted}
-use Rattle.surface.proofs.Within.{still}
 
 pub parted : {t u : Three} → Sides t u → Parted t u
 parted {t} {u} h = record {
@@ -18,4 +18,4 @@ parted {t} {u} h = record {
 }
   where
     none : ¬ (Beside (h .from) (h .from) t)
-    none b = let p = h .from in omega (arith, b .off, still p (t .first), still p (t .second), still p (t .third))
+    none b = let p = h .from in omega (arith, b .off, flat-first p (t .first), flat-first p (t .second), flat-first p (t .third))

@@ -15,6 +15,7 @@ use Rattle.grid.proofs.Cutting.{Halfway, cut}
 use Rattle.grid.proofs.Turning.{right-sum, halfway}
 use Rattle.grid.proofs.Parity.{even-false, odd-true}
 use Rattle.mesh.specs.Triangles.{Three, three, written, uncut}
+use Rattle.mesh.proofs.Proper.{flat-first}
 use Rattle.aim.specs.Geometry.{quartered, Contains}
 use Rattle.aim.proofs.Passages.{same-order}
 use Rattle.surface.specs.Surface.{Encloses}
@@ -26,10 +27,6 @@ module _ (a c p s q : Point) (h : Halfway c p s) where
 
   backward-mean : 2 * backward a c q ≡ backward a p q + backward a s q
   backward-mean = omega (arith, right-sum (c .x) (p .x) (s .x) (a .y) (h .east), right-sum (c .y) (p .y) (s .y) (q .x) (h .north))
-
--- about two points that are the same there is no turn
-pub still : (p q : Point) → onward p p q ≡ backward p p q
-still p q = omega arith
 
 -- in quarter cells, too, it is midway
 quartered-halfway : {c p s : Point} → Halfway c p s → Halfway (quartered c) (quartered p) (quartered s)
@@ -52,7 +49,7 @@ module _ (l a r c q : Point) (h : Halfway c l r) where
         backward-mean (quartered a) (quartered c) (quartered l) (quartered r) q h′,
         onward-mean (quartered l) (quartered c) (quartered l) (quartered r) q h′,
         backward-mean (quartered l) (quartered c) (quartered l) (quartered r) q h′,
-        still (quartered l) q,
+        flat-first (quartered l) q,
       )
 
 -- What holds of a half holds of the triangle, in whichever order they are written: the first half of (l, a, r) is (l, c, a), and its second half is

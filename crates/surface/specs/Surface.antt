@@ -29,7 +29,7 @@ use Rattle.aim.specs.declared.HeightAnswer.{HeightAnswer}
 use Rattle.aim.specs.declared.PlaneAnswer.{PlaneAnswer}
 
 -- The calls: a selection that accepts, whatever its buffers held; then triangles, on the marks that it wrote, with room enough: three entries for each
--- triangle, by document 01's count, which is their number, since the set is closed. (6N² entries are always enough: `room-enough`.)
+-- triangle, by document 01's count, which is their number, since the set is closed. (6N² entries are always enough: `room-enough` in mesh.)
 pub record Called (s : Surveying) (a : Selected) (marks : List ℕ) (heights : List ℤ) (places : List ℕ) (r : Meshed) (places′ : List ℕ) : Type 0 where
   -- samples have 16 bits, as those of a lent `&[i16]` do
   pub sixteen : Sixteen (s .survey)
