@@ -29,12 +29,14 @@ pub enum HeightAnswer {
 }
 
 // In units, and units per cell.
+#[repr(C)]
 pub struct GroundPlane {
     pub height: f32,
     pub east: f32,
     pub north: f32,
 }
 
+#[repr(C)]
 pub struct PlaneAnswer {
     pub refusal: u32,
     pub ground: GroundPlane,

@@ -22,3 +22,8 @@ pub mod Turning
 pub mod Numbers
 pub mod Values
 pub mod Order
+pub mod Reach
+pub mod Rows
+pub mod ByKind
+pub mod Powers
+pub mod Keeping

@@ -1,6 +1,7 @@
 // What a mark may be, what it keeps, what it says of the sample.
 ghost use mathlib.Core.Path.{_≡_};
 ghost use Rattle.grid.specs.Mark.{goodMark, keptMark, filledMark};
+ghost use Rattle.grid.specs.Inner.{keeps};
 
 pub struct Mark {
     pub value: u8,
@@ -56,6 +57,13 @@ pub fn kept(mark: u8) -> bool
         return true;
     }
     mark == Mark::VOID_KEPT
+}
+
+// Of a good mark the same, in one test: but for what a void adds, it is 0 just where its point is left out.
+pub fn keeps(mark: u8) -> bool
+    ensures { λ r. ⌜ r ≡ keeps mark ⌝ }
+{
+    mark % Mark::IF_VOID != 0
 }
 
 pub fn filled(mark: u8) -> bool

@@ -3,9 +3,9 @@ use super::Grid;
 ghost use mathlib.Core.Path.{_≡_};
 ghost use Prim.Native.Nat.{_≤_, _<_};
 ghost use mathlib.Core.List.{_++_, _∷_, []};
-ghost use Rattle.grid.specs.Grid.{Sound, Inside, widest, at};
+ghost use Rattle.grid.specs.Grid.{Sound, Inside, side, widest, at};
 ghost use Rattle.grid.specs.Points.{units, outermost, isCorner, site, pair, diagonal, both, endsBy, ends, near, laid, inLine, crossing, crossed, beside, dependsBy, dependsOn, dependentsBy, dependents};
-ghost use Rattle.grid.specs.Inner.{Back, listed, Listed};
+ghost use Rattle.grid.specs.Inner.{Back, reachBy, listed, Listed};
 
 // x cells east and y cells north of the south-west corner.
 pub struct Point {
@@ -171,6 +171,22 @@ pub fn ends(g: Grid, p: Point) -> Pair
     let t = site_of(g, p);
     let kind = t.kind;
     ends_by(kind, t.spacing, p.x, p.y)
+}
+
+// How many places before and behind a point its ends lie: a place is linear in its point.
+pub fn reach_of(g: Grid, kind: Kind, s: u32) -> usize
+    requires { ⌜ Sound g × (s ≤ widest) ⌝ }
+    ensures { λ r. ⌜ r ≡ reachBy kind (side (g .m)) s ⌝ }
+{
+    let east = s as usize;
+    let north = east * ((g.side as usize) + 1);
+    match kind {
+        Kind::Corner => 0,
+        Kind::EastWest => east,
+        Kind::NorthSouth => north,
+        Kind::Rising => north + east,
+        Kind::Falling => north - east,
+    }
 }
 
 impl Few {

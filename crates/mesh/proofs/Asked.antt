@@ -11,8 +11,8 @@ use Rattle.grid.specs.Grid.{side, samples, largest, widest, at}
 use Rattle.grid.specs.Points.{laid}
 use Rattle.grid.specs.declared.Grid.{Grid}
 use Rattle.grid.proofs.Places.{side-small}
-use Rattle.selection.specs.Inner.{Power}
-use Rattle.selection.proofs.Sweeps.{spacing-small}
+use Rattle.grid.specs.Inner.{Power}
+use Rattle.grid.proofs.Powers.{spacing-small}
 use Rattle.mesh.specs.Closed.{keptBy}
 use Rattle.mesh.specs.Inner.{Tells, BackedAlong, Stride, unit, Spaced, Line, CentreRow, Across, LineClosed}
 use Rattle.mesh.proofs.Strides.{unit-positive, Looked, edge-looked, centre-looked, stride, told-stride}
@@ -79,12 +79,12 @@ module _ {g : Grid} {marks : List ℕ} {s : ℕ} (spaced : Spaced g marks s) whe
     pub edge-stride : Stride marks (c * v + s * u) (c * v + g .side * u) (2 * (s * u)) before after
     edge-stride =
         let some : s ≤ s * u = rw eu (le-mul-of-pos-right s (unit-positive (g .m) turned)) in
-        stride w turned c 1 2 from-is to-is step-is (spaced .long) looked
+        stride w turned c 1 2 from-is to-is step-is (spaced .plain) (spaced .long) looked
         (omega (arith, spaced-small, some)) (omega (arith, line-small turned (line .inside) eu ev)) (spaced .sound .small)
 
     pub edge-told : {r : Bool} → Tells r (BackedAlong marks (c * v + s * u) (c * v + g .side * u) (2 * (s * u)) before after) →
         Tells r (LineClosed (g .m) (keptBy (g .m) marks) s turned c)
-    edge-told t = line-told w (keptBy (g .m) marks) turned c (told-stride w turned c 1 2 from-is to-is step-is (spaced .long) looked t)
+    edge-told t = line-told w (keptBy (g .m) marks) turned c (told-stride w turned c 1 2 from-is to-is step-is (spaced .plain) (spaced .long) looked t)
 
   -- s rows on
   pub ups-small : (s ≤ s * (g .side + 1)) × (s * (g .side + 1) ≤ samples largest)
@@ -120,9 +120,9 @@ module _ {g : Grid} {marks : List ℕ} {s : ℕ} (spaced : Spaced g marks s) whe
 
     pub centre-stride : Stride marks from (y * (g .side + 1) + g .side) (4 * s) d d
     centre-stride =
-        stride w false y first 4 centre-from centre-to centre-step (spaced .long) centres
+        stride w false y first 4 centre-from centre-to centre-step (spaced .plain) (spaced .long) centres
         (omega (arith, spaced-small)) (omega (arith, spaced-small)) (spaced .sound .small)
 
     pub centre-told : {r : Bool} → Tells r (BackedAlong marks from (y * (g .side + 1) + g .side) (4 * s) d d) →
         Tells r (Told w (keptBy (g .m) marks) false y first 4)
-    centre-told t = told-stride w false y first 4 centre-from centre-to centre-step (spaced .long) centres t
+    centre-told t = told-stride w false y first 4 centre-from centre-to centre-step (spaced .plain) (spaced .long) centres t

@@ -4,12 +4,18 @@ use mathlib.Core.Path.{_≡_, refl}
 use mathlib.Core.Bool.{Bool, true, false, not, _||_, and-eq-true-iff}
 use mathlib.Core.List.{List, List·Memᴰ}
 use mathlib.Core.Logic.{_↔_}
-use Prim.Native.Nat.{ℕ}
+use Prim.Native.Nat.{ℕ, _<_}
+use native.Mathlib.Decide.{decLt}
+use native.Mathlib.Omega.{arith}
+use lib.ListN.{length, getD, List·getD-eq-default}
 use borrow.Author.Tests.{eqb-true}
-use Rattle.grid.specs.Grid.{Inside}
+use Rattle.grid.specs.Grid.{samples, point, Inside}
 use Rattle.grid.specs.Points.{isCorner, dependsOn}
-use Rattle.grid.specs.Mark.{forCorner, goodMark}
+use Rattle.grid.specs.Mark.{leftOut, forCorner, goodMark}
+use Rattle.grid.specs.Inner.{keeps}
 use Rattle.grid.specs.declared.points.Point.{Point}
+use Rattle.grid.proofs.Keeping.{keeps-good}
+use Rattle.grid.proofs.Places.{place-point, point-inside}
 use Rattle.grid.proofs.Spaced.{corner-inside}
 use Rattle.selection.specs.Marks.{markAt}
 use Rattle.selection.specs.Selected.{corners}
@@ -17,12 +23,22 @@ use Rattle.selection.specs.Rule.{Closed}
 use Rattle.selection.proofs.Corners.{corner-in, listed-corner}
 use Rattle.mesh.specs.Triangles.{points}
 use Rattle.mesh.specs.Closed.{every, goodAt, goodMarks, keptBy, supported, closed}
+use Rattle.mesh.specs.Inner.{keptPlace, Plain}
 use Rattle.mesh.proofs.Every.{every-in, in-every, every-point}
 
 pub good-marks : (m : ℕ) (marks : List ℕ) →
     (goodMarks m marks ≡ true) ↔ ((p : Point) → Inside m p → goodMark (isCorner m p) (markAt m marks p) ≡ true)
 unfolding goodMarks
 good-marks m marks = every-point m (goodAt m marks)
+
+-- of good marks one test tells whether a mark keeps its point; where no mark stands, 0 is read, which keeps none
+pub plain-marks : (m : ℕ) (marks : List ℕ) → length marks ≡ samples m →
+    ((p : Point) → Inside m p → goodMark (isCorner m p) (markAt m marks p) ≡ true) → Plain marks
+plain-marks m marks long good i = go (decLt i (samples m))
+  where
+    go : Dec (i < samples m) → keeps (getD marks i leftOut) ≡ keptPlace marks i
+    go (yes l) = rw (place-point m i) at (keeps-good (isCorner m (point m i)) (markAt m marks (point m i)) (good (point m i) (point-inside m i l)))
+    go (no l) = rw (List·getD-eq-default marks leftOut {n = i} (omega (arith, long)))
 
 module _ (m : ℕ) (kept : Point → Bool) where
   -- with a kept point, all it depends on

@@ -44,8 +44,14 @@ uncut-here kept (suc k) l a r out = rw out
 pub even-whole : (kept : ℕ → Bool) (k l a r : ℕ) → isCut kept k l r ≡ false → k % 2 ≡ 0 → cutPlaces kept k l a r ≡ l ∷ a ∷ r ∷ []
 even-whole kept k l a r out even = uncut-here kept k l a r out ∙ rw (even-false k even)
 
-odd-whole : (kept : ℕ → Bool) (k l a r : ℕ) → isCut kept k l r ≡ false → k % 2 ≡ 1 → cutPlaces kept k l a r ≡ r ∷ a ∷ l ∷ []
+pub odd-whole : (kept : ℕ → Bool) (k l a r : ℕ) → isCut kept k l r ≡ false → k % 2 ≡ 1 → cutPlaces kept k l a r ≡ r ∷ a ∷ l ∷ []
 odd-whole kept k l a r out odd = uncut-here kept k l a r out ∙ rw (odd-true k odd)
+
+-- with one cut left it is written as its halves
+pub one-cut : (kept : ℕ → Bool) (l a r : ℕ) {c : ℕ} → c ≡ midplace l r → kept (midplace l r) ≡ true →
+    cutPlaces kept 1 l a r ≡ (l ∷ c ∷ a ∷ []) ++ (a ∷ c ∷ r ∷ [])
+unfolding cutPlaces
+one-cut kept l a r e is = rw (is, e)
 
 -- then it finds room for three places
 pub three-room : {xs : List ℕ} {p q w : ℕ} (at : ℕ) {n : ℕ} → xs ≡ p ∷ q ∷ w ∷ [] → at + length xs ≤ n → at + 3 ≤ n
@@ -100,10 +106,17 @@ module _ {marks : List ℕ} {k l a r c at : ℕ} {buffer : List ℕ} (t : Halved
   long : length (list k l a r) ≡ length (of 0) + length (of 1)
   long = ap length cut-here ∙ length-append (of 0) (of 1)
 
+  apex : c < length marks
+  apex = omega (arith, t .corners .ends, t .middle)
+
   -- a half's corners are places at which marks stand
   pub half-corners : (i : ℕ) → i < 2 → Corners marks (corner l a r i) c (corner l a r (i + 1))
-  half-corners zero below = omega (arith, t .corners, t .middle)
-  half-corners (suc zero) below = omega (arith, t .corners, t .middle)
+  half-corners zero below =
+      let k = t .corners in
+      record { ends = record { plain = k .ends .plain; small = k .ends .small; left = k .ends .left; right = k .apex }; apex = apex }
+  half-corners (suc zero) below =
+      let k = t .corners in
+      record { ends = record { plain = k .ends .plain; small = k .ends .small; left = k .apex; right = k .ends .right }; apex = apex }
   half-corners (suc (suc i)) below = absurd (omega arith)
 
   -- and where the triangle found room it does, behind the half before
@@ -112,6 +125,11 @@ module _ {marks : List ℕ} {k l a r c at : ℕ} {buffer : List ℕ} (t : Halved
   half-room zero below p = omega (arith, long, t .room, put-long p, p .behind)
   half-room (suc zero) below p = omega (arith, long, t .room, put-long p, p .behind)
   half-room (suc (suc i)) below p = absurd (omega arith)
+
+  -- where the triangle has an even number of cuts left its halves have one: whether they are cut is whether their midpoint is kept
+  pub odd-cut : (i : ℕ) {told : Bool} → k % 2 ≡ 0 → told ≡ keptPlace marks (midplace (corner l a r i) (corner l a r (i + 1))) →
+      isCut (keptPlace marks) (k - 1) (corner l a r i) (corner l a r (i + 1)) ≡ told
+  odd-cut i even e = sym (e ∙ one-left (keptPlace marks) (k - 1) (corner l a r i) (corner l a r (i + 1)) (λ none. omega (arith, some-left)))
 
   -- an uncut half: where the triangle has an even number of cuts left it has an odd one, and the other way round
   pub odd-half : (i : ℕ) → k % 2 ≡ 0 → isCut (keptPlace marks) (k - 1) (corner l a r i) (corner l a r (i + 1)) ≡ false →

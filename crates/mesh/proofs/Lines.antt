@@ -1,7 +1,7 @@
 -- Line by line and spacing by spacing: each point that is no grid corner lies in one of the lines that are asked, so what is told of
 -- the lines is told of all points. A grid corner depends on nothing.
 use mathlib.Core.Path.{_≡_, refl, sym, ap, _∙_}
-use mathlib.Core.Bool.{Bool, true, false, false≢true, not, or-true}
+use mathlib.Core.Bool.{Bool, true, false, false≢true, not, _&&_, or-true, and-eq-true-iff}
 use Prim.Native.Nat.{ℕ, suc, _+_, _-_, _*_, _^_, _/_, _%_, _≤_, _<_}
 use native.Mathlib.Nat.{pow-suc, mul-comm, mul-one, mul-le-mul-left, le-mul-of-pos-right}
 use native.Mathlib.Decide.{ℕ-discrete, decLt}
@@ -13,27 +13,26 @@ use Rattle.grid.specs.declared.points.Kind.{Kind}
 use Rattle.grid.proofs.Around.{Way, row, column, rise, fall, same-point}
 use Rattle.grid.proofs.Parity.{kind-corner}
 use Rattle.grid.proofs.Placed.{Placed, placed, kind-way}
-use Rattle.selection.specs.Inner.{Power}
+use Rattle.grid.specs.Inner.{Power}
 use Rattle.selection.proofs.Ranks.{exponent-below, exponent-most}
-use Rattle.selection.proofs.Sweeps.{two-on}
+use Rattle.grid.proofs.Powers.{two-on, positive}
 use Rattle.mesh.specs.Triangles.{points}
 use Rattle.mesh.specs.Closed.{every, supported}
 use Rattle.mesh.specs.Inner.{Tells, Line, CentreRow, Across, falls, rises, LineClosed, LinesClosed, SpacingClosed}
 use Rattle.mesh.proofs.Every.{every-point}
-use Rattle.mesh.proofs.Strides.{positive, odd-reach}
+use Rattle.mesh.proofs.Strides.{odd-reach}
 
--- told of one claim after another
-pub tells-true : {P : Type 0} → P → Tells true P
-tells-true p = (λ e. p, λ q. refl)
-
-pub tells-not : {r : Bool} {P Q : Type 0} → Tells r P → r ≡ false → (Q → P) → Tells false Q
+-- told of one claim and of another
+tells-not : {r : Bool} {P Q : Type 0} → Tells r P → r ≡ false → (Q → P) → Tells false Q
 tells-not t e f = (λ b. absurd (false≢true b), λ q. absurd (false≢true (sym e ∙ t .1 (f q))))
 
 pub tells-as : {r : Bool} {P Q : Type 0} → Tells r P → (P → Q) → (Q → P) → Tells r Q
 tells-as t f g = (λ e. f (t .0 e), λ q. t .1 (g q))
 
-pub tells-both : {r v : Bool} {P Q : Type 0} → Tells r P → r ≡ true → Tells v Q → Tells v (P × Q)
-tells-both t e u = tells-as u (λ q. (t .0 e, q)) (λ both. both .1)
+pub tells-both : {r v : Bool} {P Q : Type 0} → Tells r P → Tells v Q → Tells (r && v) (P × Q)
+tells-both {r} {v} t u =
+    let both = and-eq-true-iff r v in
+    (λ e. let w = both .0 e in (t .0 (w .0), u .0 (w .1)), λ pq. both .1 (t .1 (pq .0), u .1 (pq .1)))
 
 -- two that tell of one claim say the same
 tells-same : (r v : Bool) {P : Type 0} → Tells r P → Tells v P → r ≡ v
@@ -41,12 +40,17 @@ tells-same true v t u = sym (u .1 (t .0 refl))
 tells-same false true t u = t .1 (u .0 refl)
 tells-same false false t u = refl
 
--- the lines before c are closed
-pub record Passed (m s : ℕ) (kept : Point → Bool) (turned : Bool) (parity c : ℕ) : Type 0 where
+-- the lines before that of a number are closed
+abbrev LinesBefore : ℕ → ℕ → (Point → Bool) → Bool → ℕ → ℕ → Type 0
+LinesBefore m s kept turned parity number =
+    (b : ℕ) → b % 2 ≡ parity → b < number → s * b ≤ side m → LineClosed m kept s turned (s * b)
+
+-- all tells whether those before c are
+pub record Passed (m s : ℕ) (kept : Point → Bool) (turned : Bool) (parity c : ℕ) (all : Bool) : Type 0 where
   pub number : ℕ
   pub times : c ≡ s * number
   pub is : number % 2 ≡ parity
-  pub closed : (b : ℕ) → b % 2 ≡ parity → b < number → LineClosed m kept s turned (s * b)
+  pub closed : Tells all (LinesBefore m s kept turned parity number)
 
 module _ {m s : ℕ} (w : Power m s) (kept : Point → Bool) (turned : Bool) where
   -- an odd number of s that is at most N is below it
@@ -76,49 +80,48 @@ module _ {m s : ℕ} (w : Power m s) (kept : Point → Bool) (turned : Bool) whe
         go (yes h) = let e : 1 + 4 * (a / 4) ≡ a = omega arith in rw e at (f .0 (a / 4) (rw e (odd-below a o l)))
         go (no h) = let e : 3 + 4 * (a / 4) ≡ a = omega arith in rw e at (f .1 (a / 4) (rw e (odd-below a o l)))
 
-    pub line-not : {r : Bool} → Tells r (Told 1 4) → r ≡ false → Tells false (LineClosed m kept s turned c)
-    line-not t e = tells-not t e (strided 1 4 (λ k. omega arith))
-
-    pub line-halves : {r v : Bool} → Tells r (Told 1 4) → r ≡ true → Tells v (Told 3 4) → Tells v (LineClosed m kept s turned c)
-    line-halves t e u = tells-as (tells-both t e u) halves (λ f. (strided 1 4 (λ k. omega arith) f, strided 3 4 (λ k. omega arith) f))
+    pub line-halves : {r v : Bool} → Tells r (Told 1 4) → Tells v (Told 3 4) → Tells (r && v) (LineClosed m kept s turned c)
+    line-halves t u = tells-as (tells-both t u) halves (λ f. (strided 1 4 (λ k. omega arith) f, strided 3 4 (λ k. omega arith) f))
 
   module _ (parity : ℕ) where
-    pub passed-first : {c : ℕ} → c ≡ s * parity → parity < 2 → Passed m s kept turned parity c
-    passed-first e l = record { number = parity; times = e; is = omega arith; closed = λ b o h. absurd (omega arith) }
+    pub passed-first : {c : ℕ} → c ≡ s * parity → parity < 2 → Passed m s kept turned parity c true
+    passed-first e l =
+        record { number = parity; times = e; is = omega arith; closed = (λ t b o l. absurd (omega arith), λ f. refl) }
 
-    module _ {c : ℕ} (here : Passed m s kept turned parity c) where
+    module _ {c : ℕ} {all : Bool} (here : Passed m s kept turned parity c all) where
       pub line-here : c ≤ side m → Line m s parity c
       line-here l = record { number = here .number; times = here .times; is = here .is; inside = l }
 
-      pub lines-not : {r : Bool} → c ≤ side m → Tells r (LineClosed m kept s turned c) → r ≡ false →
-          Tells false (LinesClosed m kept s turned parity)
-      lines-not l t e =
-          tells-not t e (λ all. rw (here .times) (all (here .number) (here .is) (rw (here .times) at l)))
-
-      pub passed-on : {r : Bool} → Tells r (LineClosed m kept s turned c) → r ≡ true → Passed m s kept turned parity (c + 2 * s)
-      passed-on t e =
+      pub passed-on : {r : Bool} → c ≤ side m → Tells r (LineClosed m kept s turned c) →
+          Passed m s kept turned parity (c + 2 * s) (all && r)
+      passed-on inside t =
           record {
             number = suc (suc (here .number));
             times = two-on s (here .number) (here .times);
             is = omega (arith, here .is);
-            closed = λ b o l. go b o l (decLt b (here .number));
+            closed =
+                tells-as (tells-both (here .closed) t) (λ both b o l h. go both b o l h (decLt b (here .number)))
+                (λ f. (λ b o l. f b o (omega arith), rw (here .times) (f (here .number) (here .is) (omega arith) (rw (here .times) at inside))));
           }
         where
-          go : (b : ℕ) → b % 2 ≡ parity → b < suc (suc (here .number)) → Dec (b < here .number) → LineClosed m kept s turned (s * b)
-          go b o l (yes h) = here .closed b o h
-          go b o l (no h) =
-              let f : here .number ≡ b = omega (arith, here .is) in rw (here .times, f) at (t .0 e)
+          go : LinesBefore m s kept turned parity (here .number) × LineClosed m kept s turned c →
+              (b : ℕ) → b % 2 ≡ parity → b < suc (suc (here .number)) → s * b ≤ side m → Dec (b < here .number) →
+              LineClosed m kept s turned (s * b)
+          go both b o l h (yes d) = both .0 b o d h
+          go both b o l h (no d) =
+              let f : here .number ≡ b = omega (arith, here .is) in rw (here .times, f) at (both .1)
 
-      pub passed-last : side m < c → LinesClosed m kept s turned parity
-      passed-last l b o h = here .closed b o (go (decLt b (here .number)))
+      pub passed-last : side m < c → Tells all (LinesClosed m kept s turned parity)
+      passed-last l =
+          tells-as (here .closed) (λ f b o h. f b o (go b h (decLt b (here .number))) h) (λ f b o d h. f b o h)
         where
-          go : Dec (b < here .number) → b < here .number
-          go (yes d) = d
-          go (no d) = let far : s * here .number ≤ s * b = mul-le-mul-left s (omega arith) in absurd (omega (arith, here .times))
+          go : (b : ℕ) → s * b ≤ side m → Dec (b < here .number) → b < here .number
+          go b h (yes d) = d
+          go b h (no d) = let far : s * here .number ≤ s * b = mul-le-mul-left s (omega arith) in absurd (omega (arith, here .times))
 
 -- a row of centres begins with one whose reach is d, and the next but one in it, and the next row, with the other
-pub record PassedCentres (m s : ℕ) (kept : Point → Bool) (y d : ℕ) : Type 0 where
-  pub passed : Passed m s kept false 1 y
+pub record PassedCentres (m s : ℕ) (kept : Point → Bool) (y d : ℕ) (all : Bool) : Type 0 where
+  pub passed : Passed m s kept false 1 y all
   pub across : Across (side m) s (1 + passed .number) d
 
 pub across-on : {n s t u d : ℕ} → u ≡ t + 2 → Across n s t d → Across n s u (2 * (s * (n + 1)) - d)
@@ -134,19 +137,19 @@ across-by e (falls h f) = falls (e ∙ h) f
 across-by e (rises h f) = rises (e ∙ h) f
 
 module _ {m s : ℕ} (w : Power m s) (kept : Point → Bool) where
-  pub centres-first : {d : ℕ} → d ≡ s * (side m + 1) - s → PassedCentres m s kept s d
+  pub centres-first : {d : ℕ} → d ≡ s * (side m + 1) - s → PassedCentres m s kept s d true
   unfolding passed-first
   centres-first e = record { passed = passed-first w kept false 1 (sym (mul-one s)) (omega arith); across = falls refl e }
 
-  module _ {y d : ℕ} (here : PassedCentres m s kept y d) where
+  module _ {y d : ℕ} {all : Bool} (here : PassedCentres m s kept y d all) where
     pub centre-row-here : y ≤ side m → CentreRow m s y d
     unfolding line-here
     centre-row-here l = record { line = line-here w kept false 1 (here .passed) l; across = here .across }
 
-    pub centres-on : {r : Bool} → Tells r (LineClosed m kept s false y) → r ≡ true →
-        PassedCentres m s kept (y + 2 * s) (2 * (s * (side m + 1)) - d)
+    pub centres-on : {r : Bool} → y ≤ side m → Tells r (LineClosed m kept s false y) →
+        PassedCentres m s kept (y + 2 * s) (2 * (s * (side m + 1)) - d) (all && r)
     unfolding passed-on
-    centres-on t e = record { passed = passed-on w kept false 1 (here .passed) t e; across = across-on (omega arith) (here .across) }
+    centres-on l t = record { passed = passed-on w kept false 1 (here .passed) l t; across = across-on (omega arith) (here .across) }
 
 -- s is a power of two up to N, and every lower spacing is closed
 pub record Spacings (m : ℕ) (kept : Point → Bool) (s : ℕ) : Type 0 where

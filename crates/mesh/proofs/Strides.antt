@@ -11,7 +11,6 @@ use native.Mathlib.Omega.{arith}
 use borrow.Author.Tests.{leb-true}
 use lib.Dec.{leb}
 use lib.ListN.{length}
-use lib.Pow.{pow-pos}
 use Rattle.grid.specs.Grid.{side, samples, largest, place, at, Inside}
 use Rattle.grid.specs.Points.{laid, inLine, near, both, endsBy, dependsOn, dependsBy}
 use Rattle.grid.specs.declared.points.Point.{Point}
@@ -20,12 +19,13 @@ use Rattle.grid.specs.declared.points.Kind.the-variants.{Rising, Falling}
 use Rattle.grid.proofs.Around.{Way, row, column, rise, fall}
 use Rattle.grid.proofs.Places.{place-below, samples-small}
 use Rattle.grid.proofs.Room.{Reach, reach}
-use Rattle.selection.specs.Inner.{Power}
-use Rattle.selection.proofs.Reach.{Between, between-by}
-use Rattle.selection.proofs.Rows.{sited}
-use Rattle.selection.proofs.Sweeps.{stands, half, wide}
+use Rattle.grid.specs.Inner.{Power}
+use Rattle.grid.proofs.Powers.{positive, stands}
+use Rattle.grid.proofs.Reach.{Between, between-by}
+use Rattle.grid.proofs.Rows.{way-odd, sited}
+use Rattle.selection.proofs.Sweeps.{half, wide}
 use Rattle.mesh.specs.Closed.{every, keptBy, supported}
-use Rattle.mesh.specs.Inner.{keptPlace, Tells, Backed, BackedAlong, Stride, unit, Across, falls, rises}
+use Rattle.mesh.specs.Inner.{keptPlace, Plain, Tells, Backed, BackedAlong, Stride, unit, Across, falls, rises}
 use Rattle.mesh.proofs.Passing.{line-test}
 
 -- the place of a point on a line
@@ -62,18 +62,15 @@ laid-inside false l h = record { east = l; north = h }
 laid-inside true l h = record { east = h; north = l }
 
 module _ {m s : ℕ} (w : Power m s) where
-  pub positive : 0 < s
-  positive = rw (w .power) (pow-pos (w .exponent))
-
   -- from an odd number of s it reaches s back and on
   pub odd-reach : (a : ℕ) → a % 2 ≡ 1 → s * a ≤ side m → Reach (side m) s (s * a)
-  odd-reach a o l = reach (side m) s (half w) a (s * a) (wide w) refl (le-of-mul-le-mul-left (rw (wide w) at l) positive) o
+  odd-reach a o l = reach (side m) s (half w) a (s * a) (wide w) refl (le-of-mul-le-mul-left (rw (wide w) at l) (positive w)) o
 
   depends-way : {a b : ℕ} {k : Kind} → Way a b k → Inside m (at (s * a) (s * b)) →
       dependsOn m (at (s * a) (s * b)) ≡ dependsBy k (side m) s (s * a) (s * b)
   unfolding dependsOn
   depends-way {a} {b} way h =
-      let z = sited (stands w refl refl h way) (w .power) way in
+      let z = sited (stands w refl refl h (way-odd way)) (w .power) way in
       sym (λ i. dependsBy (z .kinded i) (side m) (z .spaced i) (s * a) (s * b))
 
   module _ (marks : List ℕ) where
@@ -203,11 +200,12 @@ module _ {m s : ℕ} (w : Power m s) (turned : Bool) (c first by : ℕ) where
               omega arith,
         )
 
-    module _ {marks : List ℕ} {before after : ℕ} (long : length marks ≡ samples m)
+    module _ {marks : List ℕ} {before after : ℕ} (plain : Plain marks) (long : length marks ≡ samples m)
         (looked : (k : ℕ) → s * number k < side m → Looked m marks (there k) before after) where
       pub stride : 0 < step → step ≤ 4 * samples largest → m ≤ largest → Stride marks from to step before after
       stride on short small =
           record {
+            plain = plain;
             on = on;
             short = short;
             small = omega (arith, samples-small small);

@@ -20,7 +20,7 @@ use Rattle.selection.proofs.Corners.{at-east}
 use Rattle.selection.proofs.Counts.{one-most}
 use Rattle.mesh.specs.Triangles.{keptInside, keptBorder, number}
 use Rattle.mesh.specs.Closed.{keptBy}
-use Rattle.mesh.specs.Inner.{keptPlace, keptOnce, keptFrom, keptBetweenEnds, Row, sum}
+use Rattle.mesh.specs.Inner.{Plain, keptPlace, keptOnce, keptFrom, keptBetweenEnds, Row, sum}
 use Rattle.mesh.proofs.Trapezoid.{sum-split, touched, touched-sum, not-outermost}
 
 -- by the three tests: a kept point adds 1 for each way in which it is not outermost
@@ -43,6 +43,14 @@ twice false n = refl
 pub kept-next : (marks : List ℕ) (i n : ℕ) → keptFrom marks i (suc n) ≡ keptFrom marks i n + keptOnce marks (i + n)
 kept-next marks i n =
     ap (sum (keptOnce marks) i) (sym (add-one n)) ∙ sum-split (keptOnce marks) i n 1 ∙ omega arith
+
+-- a row but for its east end: the west end and those between
+pub kept-west : (marks : List ℕ) (at n : ℕ) → 0 < n → keptFrom marks at n ≡ keptOnce marks at + keptBetweenEnds marks at n
+kept-west marks at zero some = absurd (omega arith)
+kept-west marks at (suc n) some =
+    let one : suc at ≡ at + 1 = omega arith in
+    let less : n ≡ suc n - 1 = omega arith in
+    λ i. keptOnce marks at + keptFrom marks (one i) (less i)
 
 pub kept-most : (marks : List ℕ) (i n : ℕ) → keptFrom marks i n ≤ n
 kept-most marks i zero = omega arith
@@ -132,9 +140,10 @@ module _ {g : Grid} (sound : Sound g) where
   pub grid-small : (g .side ≤ widest) × (g .side * (g .side + 1) ≤ samples largest)
   grid-small = rw (sound .sided) (side-small (sound .small), omega (arith, rows (g .m), samples-small (sound .small)))
 
-  pub row-at : {marks : List ℕ} {at : ℕ} → length marks ≡ samples (g .m) → at ≤ g .side * (g .side + 1) → Row marks at (g .side)
-  row-at long l =
+  pub row-at : {marks : List ℕ} {at : ℕ} → Plain marks → length marks ≡ samples (g .m) → at ≤ g .side * (g .side + 1) → Row marks at (g .side)
+  row-at plain long l =
       record {
+        plain = plain;
         small = omega (arith, samples-small (sound .small));
         some = rw (sound .sided) (pow-pos (g .m));
         wide = grid-small .0;

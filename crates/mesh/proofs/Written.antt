@@ -19,7 +19,7 @@ use Rattle.selection.specs.Rule.{Closed}
 use Rattle.mesh.specs.Triangles.{Three, written, uncut, mesh, placesOf, number}
 use Rattle.mesh.specs.Closed.{keptBy}
 use Rattle.mesh.specs.Meshed.{writtenOver}
-use Rattle.mesh.specs.Inner.{keptPlace, inOrder, cutPlaces, Corners, Put}
+use Rattle.mesh.specs.Inner.{Plain, keptPlace, inOrder, cutPlaces, Corners, Put}
 use Rattle.mesh.proofs.Numbered.{number-triangles}
 use Rattle.mesh.proofs.Halves.{put-both}
 
@@ -73,10 +73,13 @@ module _ (m : ℕ) where
     last-place = place-below m (at (side m) (side m)) (omega arith)
 
     -- marks stand there
-    pub starts : m ≤ largest → length marks ≡ samples m → Corners marks 0 east (north + east) × Corners marks (north + east) north 0
-    starts small long =
-        let room = samples-small small in
-        (omega (arith, last-place), omega (arith, last-place))
+    pub starts : Plain marks → m ≤ largest → length marks ≡ samples m → Corners marks 0 east (north + east) × Corners marks (north + east) north 0
+    starts plain small long =
+        let few : length marks ≤ samples largest = omega (arith, samples-small small) in
+        let last : north + east < length marks = omega (arith, last-place) in (
+          record { ends = record { plain = plain; small = few; left = omega arith; right = last }; apex = omega arith },
+          record { ends = record { plain = plain; small = few; left = last; right = omega arith }; apex = omega arith },
+        )
 
     -- what is written for the first of the two triangles that the square starts as, and for the second
     abbrev pub firsts : List ℕ

@@ -11,12 +11,16 @@ use Rattle.grid.specs.Points.{odd, laid}
 use Rattle.grid.specs.Mark.{leftOut, goodMark, keptMark}
 use Rattle.grid.specs.declared.Grid.{Grid}
 use Rattle.grid.specs.declared.points.Point.{Point}
-use Rattle.selection.specs.Inner.{Power}
+use Rattle.grid.specs.Inner.{Power, keeps}
 use Rattle.mesh.specs.Closed.{supported}
 
 -- whether the mark at a place keeps its point
 abbrev pub keptPlace : List ℕ → ℕ → Bool
 keptPlace marks i = keptMark (getD marks i leftOut)
+
+-- of each mark one test tells whether it keeps its point: so it is where all are good
+abbrev pub Plain : List ℕ → Type 0
+Plain marks = (i : ℕ) → keeps (getD marks i leftOut) ≡ keptPlace marks i
 
 -- n terms: f at each number from i
 abbrev pub sum : (ℕ → ℕ) → ℕ → ℕ → ℕ
@@ -33,6 +37,7 @@ keptFrom marks i n = sum (keptOnce marks) i n
 
 -- from a place on, the marks of a row that is n cells long
 pub record Row (marks : List ℕ) (at n : ℕ) : Type 0 where
+  pub plain : Plain marks
   pub small : length marks ≤ samples largest
   pub some : 0 < n
   pub wide : n ≤ widest
@@ -59,12 +64,17 @@ cutPlaces kept (suc k) l a r =
     (cutPlaces kept k l (midplace l r) a ++ cutPlaces kept k a (midplace l r) r)
     (inOrder (suc k) l a r)
 
--- three places at which marks stand, and no more marks than the largest size has
-pub record Corners (marks : List ℕ) (l a r : ℕ) : Type 0 where
+-- two places at which marks stand, and no more marks than the largest size has
+pub record Ends (marks : List ℕ) (l r : ℕ) : Type 0 where
+  pub plain : Plain marks
   pub small : length marks ≤ samples largest
   pub left : l < length marks
-  pub apex : a < length marks
   pub right : r < length marks
+
+-- three such places
+pub record Corners (marks : List ℕ) (l a r : ℕ) : Type 0 where
+  pub ends : Ends marks l r
+  pub apex : a < length marks
 
 -- a list was written into a buffer from an index on, and next is the index behind it
 pub record Put (list : List ℕ) (at : ℕ) (buffer : List ℕ) (next : ℕ) (buffer′ : List ℕ) : Type 0 where
@@ -93,6 +103,7 @@ BackedAlong marks from to step before after = (k : ℕ) → from + step * k < to
 
 -- there are marks at all those places, and before and after them
 pub record Stride (marks : List ℕ) (from to step before after : ℕ) : Type 0 where
+  pub plain : Plain marks
   pub on : 0 < step
   pub short : step ≤ 4 * samples largest
   pub small : length marks ≤ samples largest
@@ -106,6 +117,7 @@ unit m turned = cond turned (side m + 1) 1
 pub record Spaced (g : Grid) (marks : List ℕ) (s : ℕ) : Type 0 where
   pub sound : Sound g
   pub long : length marks ≡ samples (g .m)
+  pub plain : Plain marks
   pub power : Power (g .m) s
 
 -- the line c is an even or an odd number of s away from the square's side

@@ -1,13 +1,13 @@
 // Whether the set that the marks keep is closed.
 use grid::Grid;
-use grid::marks::kept;
+use grid::marks::keeps;
 ghost use mathlib.Core.Path.{_≡_};
 ghost use mathlib.Core.Bool.{false, cond};
 ghost use lib.ListN.{length};
 ghost use Rattle.grid.specs.Grid.{Sound, samples};
 ghost use Rattle.mesh.specs.Triangles.{points};
 ghost use Rattle.mesh.specs.Closed.{every, keptBy, supported};
-ghost use Rattle.mesh.specs.Inner.{Tells, BackedAlong, Stride, Spaced, Line, CentreRow, LineClosed, LinesClosed, SpacingClosed, unit};
+ghost use Rattle.mesh.specs.Inner.{Plain, Tells, BackedAlong, Stride, Spaced, Line, CentreRow, LineClosed, LinesClosed, SpacingClosed, unit};
 
 // With each kept sample of the places from, from + step, .. below to: are those so many places before and after it kept?
 fn along(marks: &[u8], from: usize, to: usize, step: usize, before: usize, after: usize) -> bool
@@ -16,11 +16,11 @@ fn along(marks: &[u8], from: usize, to: usize, step: usize, before: usize, after
 {
     let mut i = from;
     while i < to {
-        if kept(marks[i]) {
-            if !kept(marks[i - before]) {
+        if keeps(marks[i]) {
+            if !keeps(marks[i - before]) {
                 return false;
             }
-            if !kept(marks[i + after]) {
+            if !keeps(marks[i + after]) {
                 return false;
             }
         }
@@ -66,19 +66,19 @@ fn edge_line_closed(g: Grid, turned: bool, s: usize, c: usize, marks: &[u8]) -> 
     along(marks, at + on, at + n * u, 2 * on, before, after)
 }
 
+// Within a line the first gap ends the look, but no gap skips a line: a way out of the whole would cost at every kept sample.
 fn edges_closed(g: Grid, turned: bool, s: usize, marks: &[u8]) -> bool
     requires { ⌜ Spaced g (now marks) s ⌝ }
     ensures { λ r. ⌜ Tells r (LinesClosed (g .m) (keptBy (g .m) (now (marks .entry))) s turned 0) ⌝ }
 {
     let n = g.side as usize;
+    let mut all = true;
     let mut c = 0;
     while c <= n {
-        if !edge_line_closed(g, turned, s, c, marks) {
-            return false;
-        }
+        all = all & edge_line_closed(g, turned, s, c, marks);
         c += 2 * s;
     }
-    true
+    all
 }
 
 // The centres of row y: from one to the next their diagonals change.
@@ -89,11 +89,9 @@ fn centre_row_closed(g: Grid, s: usize, y: usize, d: usize, marks: &[u8]) -> boo
     let n = g.side as usize;
     let row = n + 1;
     let at = y * row;
-    if !along(marks, at + s, at + n, 4 * s, d, d) {
-        return false;
-    }
     let other = 2 * (s * row) - d;
-    along(marks, at + 3 * s, at + n, 4 * s, other, other)
+    along(marks, at + s, at + n, 4 * s, d, d)
+        & along(marks, at + 3 * s, at + n, 4 * s, other, other)
 }
 
 fn centres_closed(g: Grid, s: usize, marks: &[u8]) -> bool
@@ -103,33 +101,26 @@ fn centres_closed(g: Grid, s: usize, marks: &[u8]) -> bool
     let n = g.side as usize;
     let up = s * (n + 1);
     let mut d = up - s;
+    let mut all = true;
     let mut y = s;
     while y <= n {
-        if !centre_row_closed(g, s, y, d, marks) {
-            return false;
-        }
+        all = all & centre_row_closed(g, s, y, d, marks);
         y += 2 * s;
         d = 2 * up - d;
     }
-    true
+    all
 }
 
 fn spacing_closed(g: Grid, s: usize, marks: &[u8]) -> bool
     requires { ⌜ Spaced g (now marks) s ⌝ }
     ensures { λ r. ⌜ Tells r (SpacingClosed (g .m) (keptBy (g .m) (now (marks .entry))) s) ⌝ }
 {
-    if !edges_closed(g, false, s, marks) {
-        return false;
-    }
-    if !edges_closed(g, true, s, marks) {
-        return false;
-    }
-    centres_closed(g, s, marks)
+    edges_closed(g, false, s, marks) & edges_closed(g, true, s, marks) & centres_closed(g, s, marks)
 }
 
 // Whether the set holds, with each point, all it depends on: by spacing, each point but the grid corners once.
 pub(crate) fn closed(g: Grid, marks: &[u8]) -> bool
-    requires { ⌜ Sound g × (length (now marks) ≡ samples (g .m)) ⌝ }
+    requires { ⌜ Sound g × (length (now marks) ≡ samples (g .m)) × Plain (now marks) ⌝ }
     ensures { λ r. ⌜ r ≡ every (supported (g .m) (keptBy (g .m) (now (marks .entry)))) (points (g .m)) ⌝ }
 {
     let n = g.side as usize;

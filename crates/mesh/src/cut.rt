@@ -1,13 +1,13 @@
 // The cutting, by places alone: the place of a midpoint is half the sum of the places.
 use grid::Grid;
-use grid::marks::kept;
+use grid::marks::keeps;
 ghost use mathlib.Core.Path.{_≡_};
 ghost use mathlib.Core.List.{[], _∷_};
 ghost use mathlib.Core.Bool.{true};
 ghost use Prim.Native.Nat.{_+_, _≤_, _<_, _%_};
 ghost use lib.ListN.{length};
-ghost use Rattle.grid.specs.Grid.{samples, largest};
-ghost use Rattle.mesh.specs.Inner.{keptPlace, isCut, cutPlaces, Corners, Put};
+ghost use Rattle.grid.specs.Grid.{midplace};
+ghost use Rattle.mesh.specs.Inner.{keptPlace, isCut, cutPlaces, Ends, Corners, Put};
 
 // Three places; answers the index behind them.
 fn put(p: usize, q: usize, w: usize, at: usize, places: &mut [u16]) -> usize
@@ -20,15 +20,22 @@ fn put(p: usize, q: usize, w: usize, at: usize, places: &mut [u16]) -> usize
     at + 3
 }
 
+fn midpoint_kept(marks: &[u8], l: usize, r: usize) -> bool
+    requires { ⌜ Ends (now marks) l r ⌝ }
+    ensures { λ t. ⌜ t ≡ keptPlace (now (marks .entry)) (midplace l r) ⌝ }
+{
+    keeps(marks[Grid::midpoint(l, r)])
+}
+
 // Whether a triangle is cut: it has a cut left and its midpoint is kept.
 fn is_cut(marks: &[u8], left: u32, l: usize, r: usize) -> bool
-    requires { ⌜ (length (now marks) ≤ samples largest) × (l < length (now marks)) × (r < length (now marks)) ⌝ }
+    requires { ⌜ Ends (now marks) l r ⌝ }
     ensures { λ t. ⌜ t ≡ isCut (keptPlace (now (marks .entry))) left l r ⌝ }
 {
     if left == 0 {
         return false;
     }
-    kept(marks[Grid::midpoint(l, r)])
+    midpoint_kept(marks, l, r)
 }
 
 // A triangle with an even number of cuts left, cut or written as it stands.
@@ -71,13 +78,36 @@ fn cut_at_centre(
     for half in 0..2 {
         let p = sides[half];
         let q = sides[half + 1];
-        if is_cut(marks, odd, p, q) {
+        if midpoint_kept(marks, p, q) {
             next = cut_at_edge(marks, odd, p, centre, q, next, places);
         } else {
             next = put(q, centre, p, next, places);
         }
     }
     next
+}
+
+// A triangle with one cut left, cut or written as it stands.
+fn last_cut(marks: &[u8], l: usize, a: usize, r: usize, at: usize, places: &mut [u16]) -> usize
+    requires { ⌜ Corners (now marks) l a r × (at + length (cutPlaces (keptPlace (now marks)) 1 l a r) ≤ length (now places)) ⌝ }
+    ensures { λ next. ⌜ Put (cutPlaces (keptPlace (now (marks .entry))) 1 l a r) at (now (places .entry)) next (now (places .exit)) ⌝ }
+{
+    if midpoint_kept(marks, l, r) {
+        let edge = Grid::midpoint(l, r);
+        let next = put(l, edge, a, at, places);
+        return put(a, edge, r, next, places);
+    }
+    put(r, a, l, at, places)
+}
+
+// With two cuts left, as most cut triangles have: these are made here, which saves their calls.
+fn last_cuts(marks: &[u8], l: usize, a: usize, r: usize, at: usize, places: &mut [u16]) -> usize
+    requires { ⌜ Corners (now marks) l a r × (isCut (keptPlace (now marks)) 2 l r ≡ true) × (at + length (cutPlaces (keptPlace (now marks)) 2 l a r) ≤ length (now places)) ⌝ }
+    ensures { λ next. ⌜ Put (cutPlaces (keptPlace (now (marks .entry))) 2 l a r) at (now (places .entry)) next (now (places .exit)) ⌝ }
+{
+    let middle = Grid::midpoint(l, r);
+    let next = last_cut(marks, l, middle, a, at, places);
+    last_cut(marks, a, middle, r, next, places)
 }
 
 // With an odd number the longest side lies along an axis: cut at an edge midpoint, likewise, into halves cut at block centres.
@@ -101,7 +131,11 @@ fn cut_at_edge(
         let p = diagonals[half];
         let q = diagonals[half + 1];
         if is_cut(marks, even, p, q) {
-            next = cut_at_centre(marks, even, p, edge, q, next, places);
+            if even == 2 {
+                next = last_cuts(marks, p, edge, q, next, places);
+            } else {
+                next = cut_at_centre(marks, even, p, edge, q, next, places);
+            }
         } else {
             next = put(p, edge, q, next, places);
         }

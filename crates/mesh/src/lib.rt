@@ -12,6 +12,7 @@ use number::number;
 ghost use mathlib.Core.Path.{_≡_};
 ghost use Rattle.mesh.specs.Meshed.{handed, noRoomFor, answerOf, Meshes};
 
+#[repr(C)]
 pub struct Meshed {
     pub refusal: u32,
     pub triangles: u32,

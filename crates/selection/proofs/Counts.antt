@@ -23,8 +23,16 @@ module _ {A : Type 0} (f : A → Bool) where
   count-append [] k = omega arith
   count-append (a ∷ l) k = omega (arith, count-append l k)
 
-  pub count-next : (l : List A) (i : ℕ) (d : A) {n x : ℕ} → i < length l → n ≡ count f (take i l) → x ≡ cond (f (getD l i d)) 1 0 →
-      n + x ≡ count f (take (i + 1) l)
-  count-next l i d h e g =
-      let more = ap (count f) (take-suc l i d h) ∙ count-append (take i l) (getD l i d ∷ []) in
-      rw (add-one i) (omega (arith, more))
+  -- of those from one place on and before another n count
+  pub record Told (l : List A) (from i n : ℕ) : Type 0 where
+    pub most : from + n ≤ i
+    pub more : count f (take from l) + n ≡ count f (take i l)
+
+  pub told-none : (l : List A) (from : ℕ) → Told l from from 0
+  told-none l from = record { most = omega arith; more = omega arith }
+
+  pub told-next : (l : List A) {from i n x : ℕ} (d : A) → i < length l → Told l from i n → x ≡ cond (f (getD l i d)) 1 0 →
+      Told l from (i + 1) (n + x)
+  told-next l {i = i} d h t g =
+      let next = ap (count f) (take-suc l i d h) ∙ count-append (take i l) (getD l i d ∷ []) in
+      record { most = omega (arith, t .most, one-most (f (getD l i d)) g); more = rw (add-one i) (omega (arith, t .more, next)) }

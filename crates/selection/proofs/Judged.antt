@@ -11,7 +11,8 @@ use Rattle.survey.specs.Filled.{sample}
 use Rattle.selection.specs.Error.{exceeding}
 use Rattle.selection.specs.Kept.{some, kept}
 use Rattle.selection.specs.Marks.{markBy, mark}
-use Rattle.selection.specs.Inner.{keeps, keptAt, Final, markOver}
+use Rattle.grid.specs.Inner.{keeps}
+use Rattle.selection.specs.Inner.{keptAt, Final, markOver}
 use Rattle.selection.proofs.Some.{some-cong}
 use Rattle.selection.proofs.Chain.{dependent-below, kept-step}
 use Rattle.selection.proofs.Marked.{own-surveyed, kept-mark, keeps-mark}

@@ -7,16 +7,14 @@ pub mod Accepted
 pub mod Counts
 pub mod Counted
 pub mod Exact
-pub mod Reach
 pub mod Within
 pub mod InTurn
 pub mod Nearby
-pub mod Sited
 pub mod Judged
 pub mod Final
 pub mod Swept
-pub mod Rows
 pub mod Along
+pub mod Strides
 pub mod Sweeps
 pub mod Ranks
 pub mod Answered

@@ -17,7 +17,8 @@ use Rattle.survey.specs.Filled.{sample, filled, CornersSurveyed}
 use Rattle.selection.specs.Error.{doubledError, errorBy, exceeding}
 use Rattle.selection.specs.Kept.{kept}
 use Rattle.selection.specs.Marks.{markBy, mark, markedOwn, markedDependence}
-use Rattle.selection.specs.Inner.{keeps}
+use Rattle.grid.specs.Inner.{keeps}
+use Rattle.grid.proofs.Keeping.{keeps-good}
 use Rattle.selection.proofs.Least.{corner-kept, over-kept}
 
 -- the mark by the four tests: grid corner, void, over tolerance, kept
@@ -32,16 +33,6 @@ kept-from false true false true own held corner = refl
 kept-from false true false false own held corner = refl
 kept-from false false false true own held corner = refl
 kept-from false false false false own held corner = refl
-
--- a mark that is no multiple of 4
-keeps-from : (c v o k : Bool) → (o ≡ true → v ≡ false) → keeps (markFrom c v o k) ≡ keptMark (markFrom c v o k)
-keeps-from true v o k own = refl
-keeps-from false true true k own = absurd (true≢false (own refl))
-keeps-from false false true k own = refl
-keeps-from false true false true own = refl
-keeps-from false true false false own = refl
-keeps-from false false false true own = refl
-keeps-from false false false false own = refl
 
 good-from : (c v o k : Bool) → (o ≡ true → v ≡ false) → goodMark c (markFrom c v o k) ≡ true
 good-from true v o k own = refl
@@ -94,14 +85,13 @@ module _ (m : ℕ) (survey : List ℤ) (over : Point → Bool) where
   kept-mark own p h =
       kept-from (isCorner m p) (isVoid (sample m survey p)) (over p) (kept m over p) (own p) (over-kept m over p h) (corner-kept m over p)
 
-  pub keeps-mark : OwnSurveyed m survey over → (p : Point) → keeps (mark m survey over p) ≡ keptMark (mark m survey over p)
-  unfolding mark
-  keeps-mark own p = keeps-from (isCorner m p) (isVoid (sample m survey p)) (over p) (kept m over p) (own p)
-
   -- every mark is good
   pub good-mark : OwnSurveyed m survey over → (p : Point) → goodMark (isCorner m p) (mark m survey over p) ≡ true
   unfolding mark
   good-mark own p = good-from (isCorner m p) (isVoid (sample m survey p)) (over p) (kept m over p) (own p)
+
+  pub keeps-mark : OwnSurveyed m survey over → (p : Point) → keeps (mark m survey over p) ≡ keptMark (mark m survey over p)
+  keeps-mark own p = keeps-good (isCorner m p) (mark m survey over p) (good-mark own p)
 
   -- a mark of 1: over tolerance
   pub mark-own : OwnSurveyed m survey over → CornersWithin m over → (p : Point) → markedOwn (mark m survey over p) ≡ over p

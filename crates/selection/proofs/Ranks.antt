@@ -15,7 +15,8 @@ use Rattle.grid.specs.Mark.{forCorner}
 use Rattle.grid.specs.declared.points.Point.{Point}
 use Rattle.grid.proofs.Units.{corner-rank}
 use Rattle.selection.specs.Marks.{mark}
-use Rattle.selection.specs.Inner.{Final, Power, Swept, corner, finer, row, column, edgeRank, centreRank}
+use Rattle.grid.specs.Inner.{Power}
+use Rattle.selection.specs.Inner.{Final, Swept, corner, finer, row, column, edgeRank, centreRank}
 use Rattle.selection.proofs.Final.{final-all}
 use Rattle.selection.proofs.Sweeps.{levelled}
 

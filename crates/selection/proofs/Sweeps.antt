@@ -7,9 +7,9 @@ use Prim.Native.Nat.{ℕ, suc, _+_, _-_, _*_, _^_, _%_, _≤_, _<_}
 use native.Mathlib.Nat.{mul-one, mul-zero, mul-suc, mul-le-mul-left}
 use native.Mathlib.Decide.{decLt}
 use native.Mathlib.Omega.{arith}
-use lib.Pow.{pow-pos, pow-mono}
+use lib.Pow.{pow-pos}
 use lib.IntN.{ℤ}
-use Rattle.grid.specs.Grid.{side, widest, largest, at, Inside}
+use Rattle.grid.specs.Grid.{side, at, Inside}
 use Rattle.grid.specs.declared.Grid.{Grid}
 use Rattle.grid.specs.Points.{level, units, rank, odd, centreBit}
 use Rattle.grid.specs.declared.points.Point.{Point}
@@ -18,11 +18,12 @@ use Rattle.grid.specs.declared.points.Kind.the-variants.{EastWest, NorthSouth, 
 use Rattle.grid.proofs.Around.{Way, row, column, rise}
 use Rattle.grid.proofs.Parity.{odd-true, even-false}
 use Rattle.grid.proofs.Placed.{Placed, measured, lattice}
-use Rattle.selection.specs.Inner.{Sited, Ready, Final, Power, Swept, edgeRank, centreRank, nextKind}
+use Rattle.grid.specs.Inner.{Sited, Power, nextKind}
+use Rattle.selection.specs.Inner.{Ready, Final, Swept, edgeRank, centreRank}
 use Rattle.selection.proofs.Final.{final-at}
 use Rattle.selection.proofs.Swept.{passed, skipped}
-use Rattle.selection.proofs.Sited.{sited-small}
-use Rattle.selection.proofs.Rows.{way-odd, sited, next-north}
+use Rattle.grid.proofs.Powers.{two-on, reaches, stands}
+use Rattle.grid.proofs.Rows.{way-odd, sited, next-north}
 
 -- the row b of rank r begins at p
 pub record Start (m s r b : ℕ) (p : Point) (k : Kind) : Type 0 where
@@ -36,8 +37,8 @@ module _ {m s r b : ℕ} {p : Point} {k : Kind} (start : Start m s r b p k) {f :
   pub gives : Final m f (Swept m (rank m p) (suc (units m p .up)) 0) marks → Final m f (Swept m r (suc b) 0) marks
   gives final = rw (start .ranked, start .up) at final
 
-  pub row-asks : {K : Type 0} {g : Grid} {survey heights : List ℤ} → Ready g survey heights → K → Final m f (Swept m r b 0) marks →
-      Ready g survey heights × Sited m p k s × K × (units m p .across ≤ 1) × Final m f (Swept m (rank m p) (units m p .up) 0) marks
+  pub row-asks : {K : Type 0} {g : Grid} {limit : ℕ} {survey heights : List ℤ} → Ready g limit survey heights → K → Final m f (Swept m r b 0) marks →
+      Ready g limit survey heights × Sited m p k s × K × (units m p .across ≤ 1) × Final m f (Swept m (rank m p) (units m p .up) 0) marks
   row-asks ready kinded final = (ready, start .sited, kinded, start .first, rw (start .ranked, start .up) final)
 
 -- the edge points of a spacing: every row below this one is final
@@ -56,30 +57,10 @@ pub record CentreRows (m s : ℕ) (f : Point → ℕ) (marks : List ℕ) (y : �
   pub way : Way 1 row k
   pub final : Final m f (Swept m (centreRank m s) row 0) marks
 
--- two spacings on
-pub two-on : (s b : ℕ) {y : ℕ} → y ≡ s * b → y + 2 * s ≡ s * suc (suc b)
-two-on s b e =
-    let one : s * suc b ≡ s * b + s = mul-suc s b in
-    let two : s * suc (suc b) ≡ s * suc b + s = mul-suc s (suc b) in
-    omega arith
-
 module _ {m s : ℕ} (w : Power m s) where
-  reaches : s ≤ side m
-  reaches = rw (w .power) (pow-mono (omega (arith, w .below)))
-
   -- its first centre
   middle : Placed m (w .exponent) 1 1 (at s s)
-  middle =
-      let t : s ≡ 2 ^ w .exponent * 1 = w .power ∙ sym (mul-one (2 ^ w .exponent)) in
-      record {
-        below = w .below;
-        times = record { east = t; north = t };
-        odd = inl refl;
-        inside = record { east = reaches; north = reaches };
-      }
-
-  pub spacing-small : m ≤ largest → (0 < s) × (s ≤ widest)
-  spacing-small l = sited-small (sited middle (w .power) (rise refl refl refl)) l
+  middle = stands w (sym (mul-one s)) (sym (mul-one s)) (record { east = reaches w; north = reaches w }) (inl refl)
 
   pub levelled : level m s s ≡ w .exponent
   levelled = measured middle .levelled
@@ -93,21 +74,15 @@ module _ {m s : ℕ} (w : Power m s) where
   wide = lattice middle .wide ∙ ap (λ (n : ℕ). n * (2 * lattice middle .half)) (sym (w .power))
 
   module _ {a b x y : ℕ} (across : x ≡ s * a) (up : y ≡ s * b) (inside : Inside m (at x y)) {k : Kind} (way : Way a b k) where
-    pub stands : Placed m (w .exponent) a b (at x y)
-    stands =
-        record {
-          below = w .below;
-          times = record { east = across ∙ ap (λ (n : ℕ). n * a) (w .power); north = up ∙ ap (λ (n : ℕ). n * b) (w .power) };
-          odd = way-odd way;
-          inside = inside;
-        }
+    here : Placed m (w .exponent) a b (at x y)
+    here = stands w across up inside (way-odd way)
 
     starts : {r : ℕ} → a ≤ 1 → 2 * w .exponent + centreBit (odd a) (odd b) ≡ r → Start m s r b (at x y) k
     unfolding rank
     starts l e =
-        let f = measured stands in
+        let f = measured here in
         record {
-          sited = sited stands (w .power) way;
+          sited = sited here (w .power) way;
           first = rw (f .across) l;
           ranked = rw (f .levelled, f .across, f .up) e;
           up = f .up;
@@ -115,7 +90,7 @@ module _ {m s : ℕ} (w : Power m s) where
 
   east-start : {b y : ℕ} → b % 2 ≡ 0 → y ≡ s * b → y ≤ side m → Start m s (edgeRank m s) b (at s y) EastWest
   east-start {b} e up l =
-      starts (sym (mul-one s)) up (record { east = reaches; north = l }) (row refl e) (omega arith)
+      starts (sym (mul-one s)) up (record { east = reaches w; north = l }) (row refl e) (omega arith)
       (rw (even-false b e, levelled) (omega arith))
 
   north-start : {b y : ℕ} → b % 2 ≡ 1 → y ≡ s * b → y ≤ side m → Start m s (edgeRank m s) b (at 0 y) NorthSouth
@@ -124,7 +99,7 @@ module _ {m s : ℕ} (w : Power m s) where
 
   centre-start : {b y : ℕ} {k : Kind} → b % 2 ≡ 1 → Way 1 b k → y ≡ s * b → y ≤ side m → Start m s (centreRank m s) b (at s y) k
   centre-start {b} o way up l =
-      starts (sym (mul-one s)) up (record { east = reaches; north = l }) way (omega arith) (rw (odd-true b o, levelled) (omega arith))
+      starts (sym (mul-one s)) up (record { east = reaches w; north = l }) way (omega arith) (rw (odd-true b o, levelled) (omega arith))
 
   -- counted in spacings, a row before the square's border
   below : {b y : ℕ} → y ≡ s * b → y < side m → b < 2 * half
@@ -148,7 +123,7 @@ module _ {m s : ℕ} (w : Power m s) where
   edge-rank = east-start {b = 0} refl (sym (mul-zero s)) (omega arith) .ranked
 
   centre-rank : rank m (at s s) ≡ centreRank m s
-  centre-rank = centre-start {b = 1} refl (rise refl refl refl) (sym (mul-one s)) reaches .ranked
+  centre-rank = centre-start {b = 1} refl (rise refl refl refl) (sym (mul-one s)) (reaches w) .ranked
 
   module _ {f : Point → ℕ} {marks : List ℕ} {y : ℕ} (here : EdgeRows m s f marks y) where
     edge-room : y < side m → (y + s ≤ side m) × (y + 2 * s ≤ side m)
@@ -180,7 +155,7 @@ module _ {m s : ℕ} (w : Power m s) where
     edge-last l final = next-rank first edge-rank (omega (arith, here .times, mul-suc s (here .row), positive)) final
       where
         first : Placed m (w .exponent) 1 0 (at s 0)
-        first = stands (sym (mul-one s)) (sym (mul-zero s)) (record { east = reaches; north = omega arith }) (row refl refl)
+        first = stands w (sym (mul-one s)) (sym (mul-zero s)) (record { east = reaches w; north = omega arith }) (inl refl)
 
         positive : 0 < s
         positive = rw (w .power) (pow-pos (w .exponent))

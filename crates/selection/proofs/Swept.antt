@@ -48,6 +48,25 @@ module _ {m j a b : ℕ} {q : Point} (g : Placed m j a b q) where
       by false n l = n
       by true c l = absurd (omega (arith, corner-rank m p h .0 c))
 
+  -- a point of that rank in that row and column is the placed one
+  pub same-there : (p : Point) → Inside m p → rank m p ≡ rank m q → units m p .up ≡ b → units m p .across ≡ a → p ≡ q
+  same-there p h e u c =
+      let s = alike p h e in
+      same-point
+      (s .times .east ∙ ap (λ (n : ℕ). 2 ^ j * n) c ∙ sym (g .times .east))
+      (s .times .north ∙ ap (λ (n : ℕ). 2 ^ j * n) u ∙ sym (g .times .north))
+
+  -- and no column beyond the square holds one
+  pub column-inside : (c : ℕ) → side m < 2 ^ j * c → (p : Point) → Inside m p → rank m p ≡ rank m q → units m p .across < c
+  column-inside c l p h e = by (decLt (units m p .across) c)
+    where
+      by : Dec (units m p .across < c) → units m p .across < c
+      by (yes d) = d
+      by (no d) =
+          let t = alike p h e .times .east in
+          let far : 2 ^ j * c ≤ 2 ^ j * units m p .across = mul-le-mul-left (2 ^ j) (omega arith) in
+          absurd (omega (arith, h .east))
+
   -- past a point: it is one more, and two columns on nothing else is
   pub past : (p : Point) → Inside m p → Swept m (rank m q) b (a + 2) p → (p ≡ q) ⊎ Swept m (rank m q) b a p
   past p h (corner e) = inr (corner e)
@@ -57,12 +76,7 @@ module _ {m j a b : ℕ} {q : Point} (g : Placed m j a b q) where
     where
       by : Dec (units m p .across < a) → (p ≡ q) ⊎ Swept m (rank m q) b a p
       by (yes k) = inr (column e u k)
-      by (no k) =
-          let s = alike p h e in
-          let c : units m p .across ≡ a = omega (arith, s .sum) in
-          inl (same-point
-          (s .times .east ∙ ap (λ (n : ℕ). 2 ^ j * n) c ∙ sym (g .times .east))
-          (s .times .north ∙ ap (λ (n : ℕ). 2 ^ j * n) u ∙ sym (g .times .north)))
+      by (no k) = inl (same-there p h e u (omega (arith, alike p h e .sum)))
 
   -- a row begins in column 0 or 1, with nothing before it
   pub begun : a ≤ 1 → (p : Point) → Inside m p → Swept m (rank m q) b a p → Swept m (rank m q) b 0 p
@@ -76,15 +90,11 @@ module _ {m j a b : ℕ} {q : Point} (g : Placed m j a b q) where
   ended c l p h (corner e) = corner e
   ended c l p h (finer k) = finer k
   ended c l p h (column e u k) = absurd (omega arith)
-  ended c l p h (row e k) = by (ℕ-discrete (units m p .up) b) (decLt (units m p .across) c)
+  ended c l p h (row e k) = by (ℕ-discrete (units m p .up) b)
     where
-      by : Dec (units m p .up ≡ b) → Dec (units m p .across < c) → Swept m (rank m q) b c p
-      by (no n) d = row e (omega arith)
-      by (yes u) (yes d) = column e u d
-      by (yes u) (no d) =
-          let t = alike p h e .times .east in
-          let far : 2 ^ j * c ≤ 2 ^ j * units m p .across = mul-le-mul-left (2 ^ j) (omega arith) in
-          absurd (omega (arith, h .east))
+      by : Dec (units m p .up ≡ b) → Swept m (rank m q) b c p
+      by (no n) = row e (omega arith)
+      by (yes u) = column e u (column-inside c l p h e)
 
   -- and the last row of a rank at the square's border or beyond
   pub passed : (c : ℕ) → side m < 2 ^ j * c → (p : Point) → Inside m p → Swept m (suc (rank m q)) 0 0 p → Swept m (rank m q) c 0 p

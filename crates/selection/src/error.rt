@@ -1,36 +1,22 @@
-// The own doubled error of a point, and how far its ends lie.
-use grid::Grid;
-use grid::points::Kind;
+// The own doubled error of a point.
+use std::num::wrapping_sub_u32;
 ghost use mathlib.Core.Path.{_≡_};
 ghost use Prim.Native.Nat.{_≤_};
 ghost use lib.Dec.{ltb};
-ghost use Rattle.grid.specs.Grid.{Sound, side, widest};
 ghost use Rattle.selection.specs.Error.{doubledError};
-ghost use Rattle.selection.specs.Inner.{reachBy};
+ghost use Rattle.selection.specs.Inner.{farthest};
 
-// The own doubled error of a height h between its ends' heights a and b.
+// No own doubled error lies farther from 0.
+const FARTHEST: u32 = 131072;
+
+// The own doubled error of a height h between its ends' heights a and b. Within the limit, error and limit together are from 0 to
+// twice the limit, and below 0 they wrap to far more: so one test is enough.
 pub(crate) fn exceeds(limit: u32, h: i16, a: i16, b: i16) -> bool
+    requires { ⌜ limit ≤ farthest ⌝ }
     ensures { λ r. ⌜ r ≡ ltb limit (doubledError h a b) ⌝ }
 {
     let error = 2 * (h as i32) - ((a as i32) + (b as i32));
-    if error < 0 {
-        return limit < -error as u32;
-    }
-    limit < error as u32
-}
-
-// How many places before and behind a point its ends lie: a place is linear in its point.
-pub(crate) fn reach_of(g: Grid, kind: Kind, s: u32) -> usize
-    requires { ⌜ Sound g × (s ≤ widest) ⌝ }
-    ensures { λ r. ⌜ r ≡ reachBy kind (side (g .m)) s ⌝ }
-{
-    let east = s as usize;
-    let north = east * ((g.side as usize) + 1);
-    match kind {
-        Kind::Corner => 0,
-        Kind::EastWest => east,
-        Kind::NorthSouth => north,
-        Kind::Rising => north + east,
-        Kind::Falling => north - east,
-    }
+    let raised = (error + (FARTHEST as i32)) as u32;
+    let together = wrapping_sub_u32(raised, FARTHEST - limit);
+    2 * limit < together
 }

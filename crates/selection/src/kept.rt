@@ -1,6 +1,6 @@
 // Whether the marks of a point's dependents keep one of them.
 use grid::Grid;
-use grid::marks::Mark;
+use grid::marks::keeps;
 use grid::points::Point;
 ghost use mathlib.Core.Path.{_≡_};
 ghost use mathlib.Core.Bool.{false};
@@ -8,15 +8,9 @@ ghost use Prim.Native.Nat.{_≤_};
 ghost use lib.ListN.{length};
 ghost use Rattle.grid.specs.Grid.{Sound, Inside, samples, side, widest, at};
 ghost use Rattle.grid.specs.Points.{near, inLine, crossing, crossed, beside};
+ghost use Rattle.grid.specs.Inner.{Clear};
 ghost use Rattle.selection.specs.Kept.{some};
-ghost use Rattle.selection.specs.Inner.{keeps, keptAt, Clear};
-
-// But for what a void adds, a good mark is 0 just where its point is left out.
-fn keeps(mark: u8) -> bool
-    ensures { λ r. ⌜ r ≡ keeps mark ⌝ }
-{
-    mark % Mark::IF_VOID != 0
-}
+ghost use Rattle.selection.specs.Inner.{keptAt};
 
 fn kept_at(g: Grid, x: u32, y: u32, marks: &[u8]) -> bool
     requires { ⌜ Sound g × Inside (g .m) (at x y) × (length (now marks) ≡ samples (g .m)) ⌝ }

@@ -16,6 +16,7 @@ ghost use Rattle.grid.specs.Grid.{Sound, Inside, samples, at, isVoid};
 ghost use Rattle.survey.specs.Filled.{sample};
 ghost use Rattle.selection.specs.Selected.{cornerVoid, handed, refusal, Selects};
 
+#[repr(C)]
 pub struct Selected {
     pub refusal: u32,
     pub own: u32,

@@ -1,25 +1,26 @@
 // The marks, by rising rank, and what is counted from them.
 use super::Selected;
 use super::error::exceeds;
-use super::error::reach_of;
 use super::kept::kept_beside;
 use super::kept::kept_crossed;
 use grid::Grid;
 use grid::marks::Mark;
 use grid::points::Kind;
 use grid::points::Point;
+use grid::points::reach_of;
 use grid::refusals::Refusal;
 ghost use mathlib.Core.Path.{_≡_};
 ghost use mathlib.Core.Bool.{true, cond};
 ghost use Prim.Native.Nat.{_≤_, suc};
-ghost use lib.ListN.{length};
+ghost use lib.ListN.{length, take};
 ghost use Rattle.grid.specs.Grid.{Sound, samples, largest, at, isVoid};
 ghost use Rattle.grid.specs.Mark.{forCorner};
 ghost use Rattle.grid.specs.Points.{isCorner, units};
+ghost use Rattle.grid.specs.Inner.{Sited, Spread, EdgeKind, CentreKind, Power, nextKind};
 ghost use Rattle.survey.specs.Filled.{sample};
 ghost use Rattle.selection.specs.Error.{exceeding};
 ghost use Rattle.selection.specs.Marks.{markBy, marksOf, markedDependence};
-ghost use Rattle.selection.specs.Inner.{Sited, Spread, EdgeKind, CentreKind, Ready, Final, Power, Settled, Before, Past, edgeRank, centreRank, nextKind, counted};
+ghost use Rattle.selection.specs.Inner.{Ready, Final, Settled, Before, Past, BeforeRun, PastRun, edgeRank, centreRank, counted, Byteful};
 
 // One spacing of the sweep, and the limit that an own doubled error must exceed.
 struct Sweep {
@@ -30,7 +31,7 @@ struct Sweep {
 
 // The mark of a point, once it is known whether a dependent is kept.
 fn mark(w: Sweep, p: Point, reach: usize, kept: bool, survey: &[i16], heights: &[i16]) -> u8
-    requires { ⌜ Ready (w .g) (now survey) (now heights) × Spread (w .g .m) p reach ⌝ }
+    requires { ⌜ Ready (w .g) (w .limit) (now survey) (now heights) × Spread (w .g .m) p reach ⌝ }
     ensures { λ r. ⌜ r ≡ markBy (isVoid (sample (w .g .m) (now (survey .entry)) p)) (exceeding (w .g .m) (now (survey .entry)) (w .limit) p) kept ⌝ }
 {
     let at = w.g.place(p);
@@ -77,7 +78,7 @@ fn mark_edge_row(
     heights: &[i16],
     marks: &mut [u8],
 )
-    requires { ⌜ Ready (w .g) (now survey) (now heights) × Sited (w .g .m) (at x y) kind (w .spacing) × EdgeKind kind × (units (w .g .m) (at x y) .across ≤ 1) × Before w (now survey) (at x y) (now marks) ⌝ }
+    requires { ⌜ Ready (w .g) (w .limit) (now survey) (now heights) × Sited (w .g .m) (at x y) kind (w .spacing) × EdgeKind kind × (units (w .g .m) (at x y) .across ≤ 1) × Before w (now survey) (at x y) (now marks) ⌝ }
     ensures { λ _. ⌜ Past w (now (survey .entry)) (at x y) (now (marks .exit)) ⌝ }
 {
     let reach = reach_of(w.g, kind, w.spacing);
@@ -91,26 +92,45 @@ fn mark_edge_row(
     }
 }
 
-// The centres of row y, whose ends change their diagonal from one to the next.
-fn mark_centre_row(w: Sweep, first: Kind, y: u32, survey: &[i16], heights: &[i16], marks: &mut [u8])
-    requires { ⌜ Ready (w .g) (now survey) (now heights) × Sited (w .g .m) (at (w .spacing) y) first (w .spacing) × CentreKind first × (units (w .g .m) (at (w .spacing) y) .across ≤ 1) × Before w (now survey) (at (w .spacing) y) (now marks) ⌝ }
-    ensures { λ _. ⌜ Past w (now (survey .entry)) (at (w .spacing) y) (now (marks .exit)) ⌝ }
+// Every second centre of row y, from x on: their ends lie along one diagonal.
+fn mark_centre_run(
+    w: Sweep,
+    kind: Kind,
+    x: u32,
+    y: u32,
+    survey: &[i16],
+    heights: &[i16],
+    marks: &mut [u8],
+)
+    requires { ⌜ Ready (w .g) (w .limit) (now survey) (now heights) × Sited (w .g .m) (at x y) kind (w .spacing) × CentreKind kind × (units (w .g .m) (at x y) .across ≤ 3) × BeforeRun w (now survey) (at x y) (now marks) ⌝ }
+    ensures { λ _. ⌜ PastRun w (now (survey .entry)) (at x y) (now (marks .exit)) ⌝ }
 {
-    let mut east = w.spacing;
-    let mut kind = first;
+    let reach = reach_of(w.g, kind, w.spacing);
+    let mut east = x;
     while east <= w.g.side {
         let p = Point { x: east, y };
         let kept = kept_beside(w.g, w.spacing, east, y, marks);
         let at = w.g.place(p);
-        let reach = reach_of(w.g, kind, w.spacing);
         marks[at] = mark(w, p, reach, kept, survey, heights);
-        east = east + 2 * w.spacing;
-        kind = next(kind);
+        east = east + 4 * w.spacing;
+    }
+}
+
+// The centres of row y, whose ends change their diagonal from one to the next. The largest spacing has a single one.
+fn mark_centre_row(w: Sweep, first: Kind, y: u32, survey: &[i16], heights: &[i16], marks: &mut [u8])
+    requires { ⌜ Ready (w .g) (w .limit) (now survey) (now heights) × Sited (w .g .m) (at (w .spacing) y) first (w .spacing) × CentreKind first × (units (w .g .m) (at (w .spacing) y) .across ≤ 1) × Before w (now survey) (at (w .spacing) y) (now marks) ⌝ }
+    ensures { λ _. ⌜ Past w (now (survey .entry)) (at (w .spacing) y) (now (marks .exit)) ⌝ }
+{
+    let s = w.spacing;
+    let other = next(first);
+    mark_centre_run(w, first, s, y, survey, heights, marks);
+    if 3 * s <= w.g.side {
+        mark_centre_run(w, other, 3 * s, y, survey, heights, marks);
     }
 }
 
 fn mark_edges(w: Sweep, survey: &[i16], heights: &[i16], marks: &mut [u8])
-    requires { ⌜ Ready (w .g) (now survey) (now heights) × Power (w .g .m) (w .spacing) × Settled w (now survey) (edgeRank (w .g .m) (w .spacing)) 0 (now marks) ⌝ }
+    requires { ⌜ Ready (w .g) (w .limit) (now survey) (now heights) × Power (w .g .m) (w .spacing) × Settled w (now survey) (edgeRank (w .g .m) (w .spacing)) 0 (now marks) ⌝ }
     ensures { λ _. ⌜ Settled w (now (survey .entry)) (centreRank (w .g .m) (w .spacing)) 0 (now (marks .exit)) ⌝ }
 {
     let s = w.spacing;
@@ -124,7 +144,7 @@ fn mark_edges(w: Sweep, survey: &[i16], heights: &[i16], marks: &mut [u8])
 }
 
 fn mark_centres(w: Sweep, survey: &[i16], heights: &[i16], marks: &mut [u8])
-    requires { ⌜ Ready (w .g) (now survey) (now heights) × Power (w .g .m) (w .spacing) × Settled w (now survey) (centreRank (w .g .m) (w .spacing)) 0 (now marks) ⌝ }
+    requires { ⌜ Ready (w .g) (w .limit) (now survey) (now heights) × Power (w .g .m) (w .spacing) × Settled w (now survey) (centreRank (w .g .m) (w .spacing)) 0 (now marks) ⌝ }
     ensures { λ _. ⌜ Settled w (now (survey .entry)) (suc (centreRank (w .g .m) (w .spacing))) 0 (now (marks .exit)) ⌝ }
 {
     let s = w.spacing;
@@ -139,7 +159,7 @@ fn mark_centres(w: Sweep, survey: &[i16], heights: &[i16], marks: &mut [u8])
 
 // By rising rank: the edge points, then the centres, which they depend on.
 fn mark_spacing(w: Sweep, survey: &[i16], heights: &[i16], marks: &mut [u8])
-    requires { ⌜ Ready (w .g) (now survey) (now heights) × Power (w .g .m) (w .spacing) × Settled w (now survey) (edgeRank (w .g .m) (w .spacing)) 0 (now marks) ⌝ }
+    requires { ⌜ Ready (w .g) (w .limit) (now survey) (now heights) × Power (w .g .m) (w .spacing) × Settled w (now survey) (edgeRank (w .g .m) (w .spacing)) 0 (now marks) ⌝ }
     ensures { λ _. ⌜ Settled w (now (survey .entry)) (suc (centreRank (w .g .m) (w .spacing))) 0 (now (marks .exit)) ⌝ }
 {
     mark_edges(w, survey, heights, marks);
@@ -163,7 +183,7 @@ fn mark_corners(g: Grid, marks: &mut [u8])
 
 // From the finest spacing to the coarsest.
 pub(crate) fn mark_all(g: Grid, limit: u32, survey: &[i16], heights: &[i16], marks: &mut [u8])
-    requires { ⌜ Ready g (now survey) (now heights) × (length (now marks) ≡ samples (g .m)) ⌝ }
+    requires { ⌜ Ready g limit (now survey) (now heights) × (length (now marks) ≡ samples (g .m)) ⌝ }
     ensures { λ _. ⌜ now (marks .exit) ≡ marksOf (g .m) (now (survey .entry)) (exceeding (g .m) (now (survey .entry)) limit) ⌝ }
 {
     mark_corners(g, marks);
@@ -180,7 +200,7 @@ pub(crate) fn mark_all(g: Grid, limit: u32, survey: &[i16], heights: &[i16], mar
 }
 
 // One where it is so.
-fn one_if(so: bool) -> u32
+fn one_if(so: bool) -> u8
     ensures { λ r. ⌜ r ≡ cond so 1 0 ⌝ }
 {
     if so {
@@ -198,15 +218,19 @@ fn is_for_dependence(mark: u8) -> bool
     mark == Mark::VOID_KEPT
 }
 
-pub(crate) fn count(marks: &[u8]) -> Selected
-    requires { ⌜ length (now marks) ≤ samples largest ⌝ }
-    ensures { λ r. ⌜ r ≡ counted (now (marks .entry)) ⌝ }
+// How many marks are counted at a time: their number fits in a byte, so that many are looked at at once.
+const BYTEFUL: usize = 240;
+
+// What is counted before to, by what is counted before from.
+fn count_on(sum: Selected, marks: &[u8], from: usize, to: usize) -> Selected
+    requires { ⌜ Byteful (now marks) from to × (sum ≡ counted (take from (now marks))) ⌝ }
+    ensures { λ r. ⌜ r ≡ counted (take to (now (marks .entry))) ⌝ }
 {
-    let mut own = 0;
-    let mut dependent = 0;
-    let mut voids = 0;
-    let mut i = 0;
-    while i < marks.len() {
+    let mut own: u8 = 0;
+    let mut dependent: u8 = 0;
+    let mut voids: u8 = 0;
+    let mut i = from;
+    while i < to {
         let mark = marks[i];
         own += one_if(mark == Mark::FOR_ERROR);
         dependent += one_if(is_for_dependence(mark));
@@ -214,9 +238,27 @@ pub(crate) fn count(marks: &[u8]) -> Selected
         i += 1;
     }
     Selected {
-        refusal: Refusal::ACCEPTED,
-        own,
-        dependent,
-        voids,
+        refusal: sum.refusal,
+        own: sum.own + (own as u32),
+        dependent: sum.dependent + (dependent as u32),
+        voids: sum.voids + (voids as u32),
     }
+}
+
+pub(crate) fn count(marks: &[u8]) -> Selected
+    requires { ⌜ length (now marks) ≤ samples largest ⌝ }
+    ensures { λ r. ⌜ r ≡ counted (now (marks .entry)) ⌝ }
+{
+    let mut sum = Selected {
+        refusal: Refusal::ACCEPTED,
+        own: 0,
+        dependent: 0,
+        voids: 0,
+    };
+    let mut from = 0;
+    while BYTEFUL <= marks.len() - from {
+        sum = count_on(sum, marks, from, from + BYTEFUL);
+        from += BYTEFUL;
+    }
+    count_on(sum, marks, from, marks.len())
 }

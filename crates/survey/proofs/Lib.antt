@@ -2,6 +2,9 @@ pub mod Reading
 pub mod Mean
 pub mod Filling
 pub mod Partial
+pub mod Finding
+pub mod Runs
+pub mod Rows
 pub mod Sweep
 pub mod Rule
 pub mod Values

@@ -12,11 +12,12 @@ use lib.Seq.{getD-set-same, getD-set-other}
 use lib.IntN.{ℤ}
 use Rattle.grid.specs.Grid.{void, isVoid, samples, place, point, Inside}
 use Rattle.grid.specs.Points.{ends}
+use Rattle.grid.specs.declared.Grid.{Grid}
 use Rattle.grid.specs.declared.points.Point.{Point}
 use Rattle.grid.proofs.Spaced.{corner-inside}
 use Rattle.grid.proofs.Places.{place-below, point-place, point-inside}
 use Rattle.survey.specs.Filled.{floorMean, sample, heightBy, heightOf, CornersSurveyed}
-use Rattle.survey.specs.Inner.{Partly, Found}
+use Rattle.survey.specs.Inner.{Ready, Partly, Found}
 use Rattle.survey.proofs.Filling.{depth, ends-up, height-by, height-surveyed, height-void}
 
 -- what a point's sample may be in a partly filled list
@@ -33,7 +34,7 @@ at-point m survey heights part p h =
 
 module _ (m : ℕ) (survey heights : List ℤ) (part : Partly m survey heights) where
   -- a sample that is not void any more has its height, and one that still is was void before
-  settled : (p : Point) → Either m survey heights p → isVoid (sample m heights p) ≡ false → sample m heights p ≡ heightOf m survey p
+  pub settled : (p : Point) → Either m survey heights p → isVoid (sample m heights p) ≡ false → sample m heights p ≡ heightOf m survey p
   settled p (inr e) n = e
   settled p (inl e) n = e ∙ sym (height-surveyed m survey p (ap isVoid (sym e) ∙ n))
 
@@ -70,6 +71,11 @@ module _ (m : ℕ) (survey heights : List ℤ) (part : Partly m survey heights) 
   still-cornered c p e =
       let s = height-surveyed m survey p (c p e) in
       ⊎-elim (λ f. ap isVoid f ∙ c p e) (λ f. ap isVoid (f ∙ s) ∙ c p e) (at-point m survey heights part p (corner-inside m p e))
+
+-- so filling may go on
+pub ready-on : {g : Grid} {a b : List ℤ} → Ready g a → Partly (g .m) a b → Ready g b
+ready-on {g} {a} {b} r part =
+    record { sound = r .sound; long = part .long ∙ r .long; corners = still-cornered (g .m) a b part (r .corners) }
 
 pub partly-none : (m : ℕ) (survey : List ℤ) → Partly m survey survey
 partly-none m survey = record { long = refl; each = λ i h. inl refl }

@@ -9,13 +9,13 @@ use native.Mathlib.Nat.{not-suc-le-zero}
 use native.Mathlib.Omega.{arith}
 use lib.ListN.{length, getD}
 use lib.IntN.{ℤ}
-use Rattle.grid.specs.Grid.{void, samples, point, Inside}
+use Rattle.grid.specs.Grid.{void, isVoid, samples, point, Inside, onGrid}
 use Rattle.grid.specs.declared.points.Point.{Point}
 use Rattle.grid.proofs.Places.{place-point, point-inside}
-use Rattle.grid.proofs.OnGrid.{is-onGrid}
+use Rattle.grid.proofs.OnGrid.{length-onGrid, onGrid-place, is-onGrid}
 use Rattle.survey.specs.Filled.{sample, heightOf, filled}
-use Rattle.survey.specs.Inner.{Partly, Found}
-use Rattle.survey.proofs.Partial.{partly-same, partly-none, partly-then}
+use Rattle.survey.specs.Inner.{NoVoid, Partly, Found}
+use Rattle.survey.proofs.Partial.{at-point, settled, partly-same, partly-none, partly-then}
 
 pub record Swept (m : ℕ) (survey heights : List ℤ) (i : ℕ) : Type 0 where
   pub partly : Partly m survey heights
@@ -49,6 +49,24 @@ module _ (m : ℕ) (survey : List ℤ) where
             ∙ ap (λ (n : ℕ). heightOf m survey (point m n)) (sym e)
         go k b h (no d) =
             ⊎-elim (λ e. e ∙ s .below k (omega arith) h) (λ e. e ∙ same (point m k) (point-inside m k h)) (f .partly .each k h)
+
+  -- filling goes on to the same heights
+  pub partly-filled : (heights : List ℤ) → Partly m survey heights → filled m heights ≡ filled m survey
+  unfolding filled
+  partly-filled heights part =
+      is-onGrid m (heightOf m survey) void (onGrid m (heightOf m heights)) (length-onGrid m (heightOf m heights)) (λ i l.
+      onGrid-place m (heightOf m heights) void i l ∙ partly-same m survey heights part (point m i) (point-inside m i l))
+
+  -- where no void is left every entry is its point's height
+  pub none-left : (heights : List ℤ) → length survey ≡ samples m → Partly m survey heights → NoVoid heights → heights ≡ filled m survey
+  unfolding filled
+  none-left heights n part none =
+      is-onGrid m (heightOf m survey) void heights (part .long ∙ n) (λ k h.
+      let p = point m k in
+      let inside = point-inside m k h in
+      let stands = sample-place m heights k in
+      let left : k < length heights = rw (part .long ∙ n) h in
+      sym stands ∙ settled m survey heights part p (at-point m survey heights part p inside) (ap isVoid stands ∙ none k left))
 
   pub swept-all : (heights : List ℤ) (i : ℕ) → length survey ≡ samples m → samples m ≤ i → Swept m survey heights i → heights ≡ filled m survey
   unfolding filled

@@ -16,9 +16,10 @@ use Rattle.grid.proofs.Sized.{above, within, small, large}
 use Rattle.selection.specs.Rule.{Closed}
 use Rattle.mesh.specs.Triangles.{points, number}
 use Rattle.mesh.specs.Closed.{every, goodMarks, keptBy, supported, closed}
+use Rattle.mesh.specs.Inner.{Plain}
 use Rattle.mesh.specs.Meshed.{Handed, handed, keptOf, needed, noRoomFor, answerOf}
 use Rattle.mesh.specs.Rule.{Good, Kept, size, buffer, mark, unclosed, room, nothing}
-use Rattle.mesh.proofs.Closing.{good-marks, closed-set, good-closed}
+use Rattle.mesh.proofs.Closing.{good-marks, plain-marks, closed-set, good-closed}
 use Rattle.mesh.proofs.Passing.{denied}
 use Rattle.mesh.proofs.Accepted.{made}
 use Rattle.mesh.proofs.Answered.{answering, answer-turned}
@@ -123,9 +124,12 @@ told-number c =
 size-refused : (h : Handed) (a : SizeAnswer) → a ≡ sizeAnswer (h .m) → a .refusal ≢ accepted → answering (a .refusal) 0 ≡ answerOf h
 size-refused h a e z = let m = large (h .m) a e z in ap (λ (n : ℕ). answering n 0) (above (h .m) a e m) ∙ answer-turned h (size m)
 
--- what the three calls on the grid ask
+-- what the three calls on the grid ask, and the last two
 ready : (c : Long) {g : Grid} → g ≡ gridOf (asked (sized c) .m) → Sound g × (length (asked (sized c) .marks) ≡ samples (g .m))
 ready c e = (sound (small-here (sized c)) e, long-here c ∙ ap (λ (g : Grid). samples (g .m)) (sym e))
+
+plain-here : (c : Marked) → Plain (seen (c .before) .marks)
+plain-here c = let h = seen (c .before) in plain-marks (h .m) (h .marks) (long-here (c .before .before .before)) (good-all c)
 
 size-of-requires : tie.Need-size-of-requires
 size-of-requires c κs = search needs
@@ -167,7 +171,8 @@ returns-3 c =
     (mark (small-here (sized l)) (long-here l) (λ good. true≢false (sym (good-marks (h .m) (h .marks) .1 good) ∙ bad)))
 
 closed-requires : tie.Need-closed-requires
-closed-requires c κs = ready (c .before .before .before) (c .before .before .grid-of .ensures)
+closed-requires c κs =
+    let r = ready (c .before .before .before) (c .before .before .grid-of .ensures) in (r .0, r .1, plain-here c)
 
 refused-requires-4 : tie.Need-refused-requires-4
 refused-requires-4 c κs = search needs
@@ -184,7 +189,9 @@ returns-4 c =
     (λ closed. true≢false (sym (closed-set (h .m) (keptOf h) .1 closed) ∙ gap)))
 
 number-requires : tie.Need-number-requires
-number-requires c κs = ready (c .before .before .before .before .before) (c .before .before .before .before .grid-of .ensures)
+number-requires c κs =
+    let r = ready (c .before .before .before .before .before) (c .before .before .before .before .grid-of .ensures) in
+    (r .0, r .1, plain-here (c .before .before))
 
 lacks-room-requires : tie.Need-lacks-room-requires
 lacks-room-requires c κs = search needs

@@ -4,9 +4,11 @@ use native.Mathlib.Omega.{arith}
 use borrow.Author.Needs.{needs}
 use Rattle.grid.specs.Refusal.{accepted}
 use Rattle.grid.proofs.Places.{samples-small}
+use Rattle.mesh.specs.Inner.{Plain}
 use Rattle.mesh.specs.Meshed.{Handed, handed, refusal}
 use Rattle.mesh.proofs.Accepted.{Accepted, accepted-handed}
 use Rattle.mesh.proofs.Answered.{answer-refusal, places-written, places-refused}
+use Rattle.mesh.proofs.Closing.{plain-marks}
 use Rattle.mesh.proofs.Halves.{put-long}
 use Rattle.mesh.proofs.Written.{last-place, starts, both-room, both-written}
 use Rattle.mesh.proofs.triangles.Statement.{statement}
@@ -45,6 +47,9 @@ none c = sym (number (c .before .before)) ∙ c .if1 .left
 
 taken : (c : Passed) → Accepted (asked (c .before .before))
 taken c = accepted-handed (asked (c .before .before)) (none c)
+
+plain : {h : Handed} → Accepted h → Plain (h .marks)
+plain {h} a = plain-marks (h .m) (h .marks) (a .long) (a .good)
 
 answer-of-requires : tie.Need-answer-of-requires
 answer-of-requires c κs = search needs
@@ -91,7 +96,7 @@ at-centre-requires c κs =
     let a = taken (c .before .before .before) in
     let h = asked (c .before .before .before .before .before) in
     let room = both-room (h .m) (h .marks) (a .closed) (a .room) in
-    rw (c .before .before .grid-of .ensures) (starts (h .m) (h .marks) (a .small) (a .long) .0, omega arith, omega (arith, room))
+    rw (c .before .before .grid-of .ensures) (starts (h .m) (h .marks) (plain a) (a .small) (a .long) .0, omega arith, omega (arith, room))
 
 mul-at-centre-2 : tie.Need-mul-at-centre-2
 mul-at-centre-2 c = record { fits = omega (arith, taken (c .before .before .before .before .before .before) .small) }
@@ -103,7 +108,7 @@ at-centre-requires-2 c κs =
     let room = both-room (h .m) (h .marks) (a .closed) (a .room) in
     let put = rw (c .before .before .before .before .before .before .grid-of .ensures) at (c .before .before .before .at-centre .ensures) in
     rw (c .before .before .before .before .before .before .grid-of .ensures)
-    (starts (h .m) (h .marks) (a .small) (a .long) .1, omega arith, omega (arith, room, put .behind, put-long put))
+    (starts (h .m) (h .marks) (plain a) (a .small) (a .long) .1, omega arith, omega (arith, room, put .behind, put-long put))
 
 same-length-2 : tie.Need-same-length-2
 same-length-2 c = search needs

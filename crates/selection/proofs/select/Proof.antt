@@ -82,7 +82,7 @@ mark-all-requires : tie.Need-mark-all-requires
 mark-all-requires c κs =
     let g = c .before .before .before .before .before .grid-of .ensures in
     let a = taken (c .before .before .before .before .before .before) in
-    rw g (record { sound = sound (a .small) refl; long = a .lengths .survey; filled = rw g at (c .before .before .before .fill .ensures) }, a .lengths .marks)
+    rw g (record { sound = sound (a .small) refl; near = omega (arith, a .tolerance); long = a .lengths .survey; filled = rw g at (c .before .before .before .fill .ensures) }, a .lengths .marks)
 
 count-requires : tie.Need-count-requires
 count-requires c κs =

@@ -1,5 +1,5 @@
 -- `survey::height_of` meets its contract. The measure is the depth below the largest spacing, which falls at each call.
-use mathlib.Core.Path.{_≡_, refl, sym, ap, _∙_, subst}
+use mathlib.Core.Path.{_≡_, refl, sym, _∙_}
 use mathlib.Core.Bool.{Bool, true, false, true≢false}
 use mathlib.Core.List.{List}
 use native.Mathlib.Omega.{arith}
@@ -18,8 +18,8 @@ use Rattle.grid.proofs.Coarser.{ends-coarser}
 use Rattle.grid.proofs.OnGrid.{room}
 use Rattle.survey.specs.Filled.{floorMean, sample, CornersSurveyed}
 use Rattle.survey.specs.Inner.{Found}
-use Rattle.survey.proofs.Reading.{read}
-use Rattle.survey.proofs.Partial.{found-surveyed, found-void, still-cornered}
+use Rattle.survey.proofs.Finding.{tested, surveyed}
+use Rattle.survey.proofs.Partial.{found-void, ready-on}
 use Prim.Native.Nat.{ℕ, _<_}
 use Rattle.survey.proofs.Filling.{depth}
 use borrow.Fn.Kinds.{In}
@@ -59,23 +59,16 @@ calls t = (
   floor-mean-reads.Learnt,
 )
 
--- what the code reads and hands on, in the words of the definition
+-- the mean of what was found at the ends is kept
 module _ (m : ℕ) (h : List ℤ) (p : Point) (at : ℕ) (n : length h ≡ samples m) (i : Inside m p) (e : at ≡ place m p)
-    (f : SFits w16 (getD h at (pos 0))) where
-  tested : {r t : Bool} → r ≡ isVoid (toZ w16 (ofZ w16 (getD h at (pos 0)))) → r ≡ t → isVoid (sample m h p) ≡ t
-  tested b c = ap isVoid (sym (read h n i e f)) ∙ sym b ∙ c
-
-  surveyed : {r : Bool} → r ≡ isVoid (toZ w16 (ofZ w16 (getD h at (pos 0)))) → r ≡ false →
-      Found m h h p (toZ w16 (ofZ w16 (getD h at (pos 0))))
-  surveyed b c = subst (λ (z : ℤ). Found m h h p z) (sym (read h n i e f)) (found-surveyed m h p (tested b c))
-
+    (fits : SFits w16 (getD h at (pos 0))) where
   filled : (a b : List ℤ) (q : Pair) (x y f : ℤ) {r : Bool} → r ≡ isVoid (toZ w16 (ofZ w16 (getD h at (pos 0)))) → r ≡ true →
       q ≡ ends m p → SFits w16 x → SFits w16 y → SFits w16 f →
       Found m h a (q .first) x → Found m a b (q .second) y → f ≡ floorMean (toZ w16 (ofZ w16 x)) (toZ w16 (ofZ w16 y)) →
       Found m h (set b at (toZ w16 (ofZ w16 f))) p (toZ w16 (ofZ w16 f))
   filled a b q x y f c d eq fx fy ff one two mean =
       let z : toZ w16 (ofZ w16 f) ≡ floorMean x y = toZ-ofZ ff ∙ mean ∙ (λ j. floorMean (toZ-ofZ fx j) (toZ-ofZ fy j)) in
-      let done = found-void m h a b p x y n i (tested c d) (rw eq at one) (rw eq at two) in
+      let done = found-void m h a b p x y n i (tested m h p at n i e fits c d) (rw eq at one) (rw eq at two) in
       rw (z, e) done
 
 -- a void is no grid corner, so its ends are less deep
@@ -93,45 +86,45 @@ module _ (m : ℕ) (h : List ℤ) (p : Point) (i : Inside m p) (c : CornersSurve
       rw e ((omega (arith, u .0 .higher), u .0 .inside), (omega (arith, u .1 .higher), u .1 .inside))
 
 height-of-place-requires : (t : ℕ) → height-of-lts.Need-place-requires (calls t) (height-of-at t) height-of.Post
-height-of-place-requires t c κs = (c .pre .1 .0, c .pre .1 .1)
+height-of-place-requires t c κs = (c .pre .1 .0 .sound, c .pre .1 .1)
 
 height-of-mul-h : (t : ℕ) → height-of-lts.Need-mul-h (calls t) (height-of-at t) height-of.Post
-height-of-mul-h t c = let s = c .before in omega (arith, c .place .ensures, place-below (s .args .g .m) (s .args .p) (s .pre .1 .1), samples-small (s .pre .1 .0 .small))
+height-of-mul-h t c = let s = c .before in omega (arith, c .place .ensures, place-below (s .args .g .m) (s .args .p) (s .pre .1 .1), samples-small (s .pre .1 .0 .sound .small))
 
 height-of-slice-copy-out-h : (t : ℕ) → height-of-lts.Need-slice-copy-out-h (calls t) (height-of-at t) height-of.Post
-height-of-slice-copy-out-h t c = let s = c .before in room (s .args .heights .now) (s .pre .1 .2) (s .pre .1 .1) (c .place .ensures)
+height-of-slice-copy-out-h t c = let s = c .before in room (s .args .heights .now) (s .pre .1 .0 .long) (s .pre .1 .1) (c .place .ensures)
 
 height-of-is-void-requires : (t : ℕ) → height-of-lts.Need-is-void-requires (calls t) (height-of-at t) height-of.Post
 height-of-is-void-requires t c κs = tt
 
 height-of-ends-requires : (t : ℕ) → height-of-lts.Need-ends-requires (calls t) (height-of-at t) height-of.Post
-height-of-ends-requires t c κs = (c .before .before .before .before .pre .1 .0, c .before .before .before .before .pre .1 .1)
+height-of-ends-requires t c κs = (c .before .before .before .before .pre .1 .0 .sound, c .before .before .before .before .pre .1 .1)
 
 height-of-height-of-requires : (t : ℕ) → height-of-lts.Need-height-of-requires (calls t) (height-of-at t) height-of.Post
 height-of-height-of-requires t c κs =
     let s = c .before .before .before .before .before .before in
-    let f = falling (s .args .g .m) (s .args .heights .now) (s .args .p) (s .pre .1 .1) (s .pre .1 .3) (tested (s .args .g .m) (s .args .heights .now) (s .args .p) _ (s .pre .1 .2) (s .pre .1 .1) (c .before .before .before .before .before .place .ensures) (record { sfits = c .before .before .before .before .h .given }) (c .before .before .before .is-void .ensures) (c .before .before .if1 .taken)) _ (c .before .ends .ensures) in
-    (omega (arith, f .0 .0, s .pre .0), (s .pre .1 .0, f .0 .1, s .pre .1 .2, s .pre .1 .3))
+    let f = falling (s .args .g .m) (s .args .heights .now) (s .args .p) (s .pre .1 .1) (s .pre .1 .0 .corners) (tested (s .args .g .m) (s .args .heights .now) (s .args .p) _ (s .pre .1 .0 .long) (s .pre .1 .1) (c .before .before .before .before .before .place .ensures) (record { sfits = c .before .before .before .before .h .given }) (c .before .before .before .is-void .ensures) (c .before .before .if1 .taken)) _ (c .before .ends .ensures) in
+    (omega (arith, f .0 .0, s .pre .0), (s .pre .1 .0, f .0 .1))
 
 height-of-height-of-requires-2 : (t : ℕ) → height-of-lts.Need-height-of-requires-2 (calls t) (height-of-at t) height-of.Post
 height-of-height-of-requires-2 t c κs =
     let s = c .before .before .before .before .before .before .before .before .before in
-    let f = falling (s .args .g .m) (s .args .heights .now) (s .args .p) (s .pre .1 .1) (s .pre .1 .3) (tested (s .args .g .m) (s .args .heights .now) (s .args .p) _ (s .pre .1 .2) (s .pre .1 .1) (c .before .before .before .before .before .before .before .before .place .ensures) (record { sfits = c .before .before .before .before .before .before .before .h .given }) (c .before .before .before .before .before .before .is-void .ensures) (c .before .before .before .before .before .if1 .taken)) _ (c .before .before .before .before .ends .ensures) in
+    let f = falling (s .args .g .m) (s .args .heights .now) (s .args .p) (s .pre .1 .1) (s .pre .1 .0 .corners) (tested (s .args .g .m) (s .args .heights .now) (s .args .p) _ (s .pre .1 .0 .long) (s .pre .1 .1) (c .before .before .before .before .before .before .before .before .place .ensures) (record { sfits = c .before .before .before .before .before .before .before .h .given }) (c .before .before .before .before .before .before .is-void .ensures) (c .before .before .before .before .before .if1 .taken)) _ (c .before .before .before .before .ends .ensures) in
     let part = c .before .before .height-of .ensures .partly in
-    (omega (arith, f .1 .0, s .pre .0), (s .pre .1 .0, f .1 .1, part .long ∙ s .pre .1 .2, still-cornered _ _ _ part (s .pre .1 .3)))
+    (omega (arith, f .1 .0, s .pre .0), (ready-on (s .pre .1 .0) part, f .1 .1))
 
 height-of-floor-mean-requires : (t : ℕ) → height-of-lts.Need-floor-mean-requires (calls t) (height-of-at t) height-of.Post
 height-of-floor-mean-requires t c κs = tt
 
 height-of-mul-f : (t : ℕ) → height-of-lts.Need-mul-f (calls t) (height-of-at t) height-of.Post
-height-of-mul-f t c = let s = c .before .before .before .before .before .before .before .before .before .before .before .before in omega (arith, c .before .before .before .before .before .before .before .before .before .before .before .place .ensures, place-below (s .args .g .m) (s .args .p) (s .pre .1 .1), samples-small (s .pre .1 .0 .small))
+height-of-mul-f t c = let s = c .before .before .before .before .before .before .before .before .before .before .before .before in omega (arith, c .before .before .before .before .before .before .before .before .before .before .before .place .ensures, place-below (s .args .g .m) (s .args .p) (s .pre .1 .1), samples-small (s .pre .1 .0 .sound .small))
 
 height-of-slice-set-from-f : (t : ℕ) → height-of-lts.Need-slice-set-from-f (calls t) (height-of-at t) height-of.Post
 height-of-slice-set-from-f t c =
     let s = c .before .before .before .before .before .before .before .before .before .before .before .before in
     let one = c .before .before .before .before .before .height-of .ensures .partly .long in
     let two = c .before .before .height-of2 .ensures .partly .long in
-    omega (arith, room (s .args .heights .now) (s .pre .1 .2) (s .pre .1 .1) (c .before .before .before .before .before .before .before .before .before .before .before .place .ensures), one, two)
+    omega (arith, room (s .args .heights .now) (s .pre .1 .0 .long) (s .pre .1 .1) (c .before .before .before .before .before .before .before .before .before .before .before .place .ensures), one, two)
 
 height-of-same-length : (t : ℕ) → height-of-lts.Need-same-length (calls t) (height-of-at t) height-of.Post
 height-of-same-length t c =
@@ -142,7 +135,7 @@ height-of-same-length t c =
 height-of-returns : (t : ℕ) → height-of-lts.Need-returns (calls t) (height-of-at t) height-of.Post
 height-of-returns t c =
     let s = c .before .before .before .before .before .before .before .before .before .before .before .before in
-    filled (s .args .g .m) (s .args .heights .now) (s .args .p) _ (s .pre .1 .2) (s .pre .1 .1) (c .before .before .before .before .before .before .before .before .before .before .before .place .ensures) (record { sfits = c .before .before .before .before .before .before .before .before .before .before .h .given }) _ _ _ _ _ _
+    filled (s .args .g .m) (s .args .heights .now) (s .args .p) _ (s .pre .1 .0 .long) (s .pre .1 .1) (c .before .before .before .before .before .before .before .before .before .before .before .place .ensures) (record { sfits = c .before .before .before .before .before .before .before .before .before .before .h .given }) _ _ _ _ _ _
     (c .before .before .before .before .before .before .before .before .before .is-void .ensures)
     (c .before .before .before .before .before .before .before .before .if1 .taken)
     (c .before .before .before .before .before .before .before .ends .ensures)
@@ -154,7 +147,7 @@ height-of-returns t c =
     (c .floor-mean .ensures)
 
 height-of-returns-2 : (t : ℕ) → height-of-lts.Need-returns-2 (calls t) (height-of-at t) height-of.Post
-height-of-returns-2 t c = let s = c .before .before .before .before in surveyed (s .args .g .m) (s .args .heights .now) (s .args .p) _ (s .pre .1 .2) (s .pre .1 .1) (c .before .before .before .place .ensures) (record { sfits = c .before .before .h .given }) (c .before .is-void .ensures) (c .if1 .left)
+height-of-returns-2 t c = let s = c .before .before .before .before in surveyed (s .args .g .m) (s .args .heights .now) (s .args .p) _ (s .pre .1 .0 .long) (s .pre .1 .1) (c .before .before .before .place .ensures) (record { sfits = c .before .before .h .given }) (c .before .is-void .ensures) (c .if1 .left)
 
 pub +height-of-spec : {M : Type 1} → statement M
 +height-of-spec = close μ-height-of λ t. height-of-lts.spec (calls t)

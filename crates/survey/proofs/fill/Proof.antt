@@ -1,72 +1,65 @@
--- `survey::fill` meets its contract: every place is swept.
-use mathlib.Core.Path.{sym, _∙_, subst}
+-- `survey::fill` meets its contract: what was partly filled has the heights of the survey.
+use mathlib.Core.Path.{_≡_, ap, _∙_, subst, subst⁻¹}
 use mathlib.Core.List.{List}
-use Prim.Native.Nat.{_-_, _≤_, _<_}
-use native.Mathlib.Omega.{arith}
 use lib.ListN.{length}
 use lib.IntN.{ℤ}
-use Rattle.grid.specs.Grid.{samples}
-use Rattle.grid.proofs.Places.{samples-small}
-use Rattle.survey.proofs.Partial.{still-cornered}
-use Rattle.survey.proofs.Sweep.{Swept, swept-none, swept-found, swept-all}
+use Rattle.grid.specs.Grid.{Sound, samples}
+use Rattle.grid.specs.declared.Grid.{Grid}
+use Rattle.survey.specs.Filled.{filled, CornersSurveyed}
+use Rattle.survey.specs.Inner.{Ready, NoVoid}
+use Rattle.survey.proofs.Partial.{partly-none, ready-on}
+use Rattle.survey.proofs.Sweep.{partly-filled, none-left}
+use borrow.Author.Needs.{needs}
 use Rattle.survey.proofs.fill.Statement.{statement}
 use Rattle.survey.proofs.fill.Tie as tie
 
-abbrev Inv-loop : tie.InvT-loop
-Inv-loop survey g heights₀ i₀ heights i = (i ≤ length heights) × Swept (g .m) survey heights i
+-- what is known of the survey is known of its copy
+copied : {g : Grid} {survey heights : List ℤ} → heights ≡ survey → Sound g → length survey ≡ samples (g .m) → CornersSurveyed (g .m) survey →
+    Ready g heights
+copied {g} e sound long corners = subst⁻¹ (Ready g) e (record { sound = sound; long = long; corners = corners })
 
-abbrev μ-loop : tie.MeasureT-loop
-μ-loop survey g heights₀ i₀ heights i = length heights - i
+copy-requires : tie.Need-copy-requires
+copy-requires c κs = search needs
 
-copy-requires : tie.Need-copy-requires Inv-loop μ-loop
-copy-requires c κs = c .before .pre .2 ∙ sym (c .before .pre .1)
+has-void-requires : tie.Need-has-void-requires
+has-void-requires c κs = search needs
 
-loop-holds : tie.Need-loop-holds Inv-loop μ-loop
-loop-holds c =
-    (omega arith, subst (λ (l : List ℤ). Swept (c .before .before .before .args .g .m) (c .before .before .before .args .survey .now) l 0) (sym (c .before .copy .ensures)) (swept-none _ _))
+fill-spacings-requires : tie.Need-fill-spacings-requires
+fill-spacings-requires c κs =
+    let s = c .before .before .before .before .before .before .before in copied (c .before .before .before .before .before .copy .ensures) (s .pre .0) (s .pre .1) (s .pre .3)
 
-settle-requires : tie.Need-settle-requires Inv-loop μ-loop
-settle-requires c κs =
-    let s = c .before .before .before .before .before .before in
-    let part = c .before .before .loop .inv .1 .partly in
-    (s .pre .0, omega (arith, part .long, s .pre .1, c .before .loop-test .taken), part .long ∙ s .pre .1, still-cornered _ _ _ part (s .pre .3))
+fill-left-requires : tie.Need-fill-left-requires
+fill-left-requires c κs =
+    let s = c .before .before .before .before .before .before .before .before .before .before in
+    ready-on (copied (c .before .before .before .before .before .before .before .before .copy .ensures) (s .pre .0) (s .pre .1) (s .pre .3)) (c .before .before .fill-spacings .ensures)
 
-add-i : tie.Need-add-i Inv-loop μ-loop
-add-i c = omega (arith, c .before .before .before .loop-test .taken, c .before .before .before .before .loop .inv .1 .partly .long, c .before .before .before .before .before .before .before .before .pre .1, samples-small (c .before .before .before .before .before .before .before .before .pre .0 .small))
+same-length : tie.Need-same-length
+same-length c = search needs
 
-loop-less : tie.Need-loop-less Inv-loop μ-loop
-loop-less c = omega (arith, c .before .before .before .loop-test .taken, c .before .settle .ensures .partly .long)
-
-loop-again : tie.Need-loop-again Inv-loop μ-loop
-loop-again c =
-    let s = c .before .before .before .before .before .before .before .before in
-    let at = c .before .before .before .before .loop in
-    let inside : at .i < samples (s .args .g .m) = omega (arith, c .before .before .before .loop-test .taken, c .before .before .before .before .loop .inv .1 .partly .long, c .before .before .before .before .before .before .before .before .pre .1) in (
-      omega (arith, c .before .before .before .loop-test .taken, c .before .settle .ensures .partly .long),
-      swept-found (s .args .g .m) (s .args .survey .now) (at .heights) (at .i) (at .inv .1) _ _ inside (c .before .settle .ensures),
-    )
-
-same-length : tie.Need-same-length Inv-loop μ-loop
-same-length c =
-    c .before .loop .inv .1 .partly .long ∙ c .before .before .before .before .before .pre .1 ∙ sym (c .before .before .before .before .before .pre .2)
-
-returns : tie.Need-returns Inv-loop μ-loop
+returns : tie.Need-returns
 returns c =
-    let s = c .before .before .before .before .before in
-    let at = c .before .loop in
-    swept-all (s .args .g .m) (s .args .survey .now) (at .heights) (at .i) (s .pre .1) (omega (arith, at .inv .1 .partly .long, s .pre .1)) (at .inv .1)
+    let s = c .before .before .before .before .before .before .before .before .before .before .before .before in
+    c .before .fill-left .ensures ∙ partly-filled (s .args .g .m) _ _ (c .before .before .before .before .fill-spacings .ensures) ∙ ap (filled (s .args .g .m)) (c .before .before .before .before .before .before .before .before .before .before .copy .ensures)
+
+same-length-2 : tie.Need-same-length-2
+same-length-2 c = search needs
+
+returns-2 : tie.Need-returns-2
+returns-2 c =
+    let s = c .before .before .before .before .before .before in
+    let same = c .before .before .before .before .copy .ensures in
+    let none = c .before .has-void .ensures (c .if1 .left) in
+    same ∙ none-left (s .args .g .m) _ _ (s .pre .1) (partly-none _ _) (subst NoVoid same none)
 
 pub fill-spec : {M : Type 1} → statement M
 fill-spec =
     tie.close
     (tie.spec
-    Inv-loop
-    μ-loop
     copy-requires
-    loop-holds
-    settle-requires
-    add-i
-    loop-less
-    loop-again
+    has-void-requires
+    fill-spacings-requires
+    fill-left-requires
     same-length
-    returns)
+    returns
+    same-length-2
+    returns-2)

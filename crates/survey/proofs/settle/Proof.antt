@@ -1,19 +1,14 @@
 -- `survey::settle` meets its contract: a sample that is not void is its own height.
-use mathlib.Core.Path.{_≡_, refl, sym, ap, _∙_, subst}
-use mathlib.Core.Bool.{Bool, false}
+use mathlib.Core.Path.{_≡_, refl, sym, subst}
 use mathlib.Core.List.{List}
-use Prim.Native.Nat.{ℕ, _<_}
-use lib.ListN.{length, getD}
-use lib.IntN.{ℤ, pos}
-use mir.Syntax.{w16}
-use mir.Val.{SFits, toZ, ofZ}
-use Rattle.grid.specs.Grid.{isVoid, samples, point, Inside}
+use Prim.Native.Nat.{ℕ}
+use lib.IntN.{ℤ}
+use Rattle.grid.specs.Grid.{point, Inside}
 use Rattle.grid.specs.declared.points.Point.{Point}
 use Rattle.grid.proofs.Places.{point-inside, place-point}
-use Rattle.survey.specs.Filled.{sample, heightOf}
+use Rattle.survey.specs.Filled.{heightOf}
 use Rattle.survey.specs.Inner.{Found}
-use Rattle.survey.proofs.Reading.{read}
-use Rattle.survey.proofs.Partial.{found-surveyed}
+use Rattle.survey.proofs.Finding.{surveyed}
 use borrow.Author.Needs.{needs}
 use Rattle.survey.proofs.settle.Statement.{statement}
 use Rattle.survey.proofs.settle.Tie as tie
@@ -22,12 +17,6 @@ use Rattle.survey.proofs.settle.Tie as tie
 named : (m : ℕ) (a b : List ℤ) (p q : Point) (r : ℤ) → p ≡ q → Found m a b p r → Found m a b q (heightOf m a q)
 named m a b p q r e f =
     let g = subst (λ (z : ℤ). Found m a b p z) (f .height) f in subst (λ (s : Point). Found m a b s (heightOf m a s)) e g
-
-surveyed : (m : ℕ) (a : List ℤ) (i : ℕ) {t : Bool} → i < samples m → length a ≡ samples m → SFits w16 (getD a i (pos 0)) →
-    t ≡ isVoid (toZ w16 (ofZ w16 (getD a i (pos 0)))) → t ≡ false → Found m a a (point m i) (heightOf m a (point m i))
-surveyed m a i l n f e t =
-    let same = read a n (point-inside m i l) (sym (place-point m i)) f in
-    named m a a (point m i) (point m i) (sample m a (point m i)) refl (found-surveyed m a (point m i) (ap isVoid (sym same) ∙ sym e ∙ t))
 
 mul-is-void : tie.Need-mul-is-void
 mul-is-void c = search needs
@@ -45,7 +34,7 @@ height-of-requires : tie.Need-height-of-requires
 height-of-requires c κs =
     let s = c .before .before .before .before .before in
     let inside = subst (λ (p : Point). Inside (s .args .g .m) p) (sym (c .before .point .ensures)) (point-inside (s .args .g .m) (s .args .i) (s .pre .1)) in
-    (s .pre .0, inside, s .pre .2, s .pre .3)
+    (s .pre .0, inside)
 
 same-length : tie.Need-same-length
 same-length c = search needs
@@ -56,9 +45,10 @@ returns c = named _ _ _ _ _ _ (c .before .before .before .point .ensures) (c .be
 returns-2 : tie.Need-returns-2
 returns-2 c =
     let s = c .before .before .before in
-    surveyed (s .args .g .m) (s .args .heights .now) (s .args .i) (s .pre .1) (s .pre .2) (record { sfits = c .before .before .is-void-arg .given })
-    (c .before .is-void .ensures)
-    (c .if1 .left)
+    let inside = point-inside (s .args .g .m) (s .args .i) (s .pre .1) in
+    named _ _ _ _ _ _ refl
+    (surveyed (s .args .g .m) (s .args .heights .now) _ (s .args .i) (s .pre .0 .long) inside (sym (place-point (s .args .g .m) (s .args .i)))
+    (record { sfits = c .before .before .is-void-arg .given }) (c .before .is-void .ensures) (c .if1 .left))
 
 pub settle-spec : {M : Type 1} → statement M
 settle-spec =

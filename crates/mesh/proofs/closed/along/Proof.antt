@@ -19,52 +19,54 @@ abbrev μ-loop : tie.MeasureT-loop
 loop-holds : tie.Need-loop-holds Inv-loop μ-loop
 loop-holds c = gone-first
 
-shared-slice-read-kept : tie.Need-shared-slice-read-kept Inv-loop μ-loop
-shared-slice-read-kept c =
+shared-slice-read-keeps : tie.Need-shared-slice-read-keeps Inv-loop μ-loop
+shared-slice-read-keeps c =
     let at = c .before .before in
     omega (arith, gone-room (at .loop .inv) (at .before .before .pre) (c .before .loop-test .taken) .1)
 
-kept-requires : tie.Need-kept-requires Inv-loop μ-loop
-kept-requires c κs = search needs
+keeps-requires : tie.Need-keeps-requires Inv-loop μ-loop
+keeps-requires c κs = search needs
 
-sub-kept : tie.Need-sub-kept Inv-loop μ-loop
-sub-kept c =
+sub-keeps : tie.Need-sub-keeps Inv-loop μ-loop
+sub-keeps c =
     let at = c .before .before .before .before in
     gone-room (at .loop .inv) (at .before .before .pre) (c .before .before .before .loop-test .taken) .0
 
-shared-slice-read-kept-2 : tie.Need-shared-slice-read-kept-2 Inv-loop μ-loop
-shared-slice-read-kept-2 c =
+shared-slice-read-keeps-2 : tie.Need-shared-slice-read-keeps-2 Inv-loop μ-loop
+shared-slice-read-keeps-2 c =
     let at = c .before .before .before .before .before in
     omega (arith, gone-room (at .loop .inv) (at .before .before .pre) (c .before .before .before .before .loop-test .taken) .1)
 
-kept-requires-2 : tie.Need-kept-requires-2 Inv-loop μ-loop
-kept-requires-2 c κs = search needs
+keeps-requires-2 : tie.Need-keeps-requires-2 Inv-loop μ-loop
+keeps-requires-2 c κs = search needs
 
 returns : tie.Need-returns Inv-loop μ-loop
 returns c =
     let at = c .before .before .before .before .before .before .before in
-    let mark = sym (c .before .before .before .before .kept .ensures) ∙ c .before .before .before .if1 .taken in
-    let out = sym (c .before .kept2 .ensures) ∙ denied (c .if2 .taken) in
+    let plain = at .before .before .pre .plain in
+    let mark = sym (plain _) ∙ sym (c .before .before .before .before .keeps .ensures) ∙ c .before .before .before .if1 .taken in
+    let out = sym (plain _) ∙ sym (c .before .keeps2 .ensures) ∙ denied (c .if2 .taken) in
     gone-not (at .loop .inv) (c .before .before .before .before .before .before .loop-test .taken) (λ backed. true≢false (sym (backed mark .0) ∙ out))
 
-add-kept : tie.Need-add-kept Inv-loop μ-loop
-add-kept c =
+add-keeps : tie.Need-add-keeps Inv-loop μ-loop
+add-keeps c =
     let at = c .before .before .before .before .before .before .before in
     record { fits = omega (arith, gone-room (at .loop .inv) (at .before .before .pre) (c .before .before .before .before .before .before .loop-test .taken) .1, at .before .before .pre .small) }
 
-shared-slice-read-kept-3 : tie.Need-shared-slice-read-kept-3 Inv-loop μ-loop
-shared-slice-read-kept-3 c =
+shared-slice-read-keeps-3 : tie.Need-shared-slice-read-keeps-3 Inv-loop μ-loop
+shared-slice-read-keeps-3 c =
     let at = c .before .before .before .before .before .before .before .before in
     gone-room (at .loop .inv) (at .before .before .pre) (c .before .before .before .before .before .before .before .loop-test .taken) .1
 
-kept-requires-3 : tie.Need-kept-requires-3 Inv-loop μ-loop
-kept-requires-3 c κs = search needs
+keeps-requires-3 : tie.Need-keeps-requires-3 Inv-loop μ-loop
+keeps-requires-3 c κs = search needs
 
 returns-2 : tie.Need-returns-2 Inv-loop μ-loop
 returns-2 c =
     let at = c .before .before .before .before .before .before .before .before .before .before in
-    let mark = sym (c .before .before .before .before .before .before .before .kept .ensures) ∙ c .before .before .before .before .before .before .if1 .taken in
-    let out = sym (c .before .kept3 .ensures) ∙ denied (c .if3 .taken) in
+    let plain = at .before .before .pre .plain in
+    let mark = sym (plain _) ∙ sym (c .before .before .before .before .before .before .before .keeps .ensures) ∙ c .before .before .before .before .before .before .if1 .taken in
+    let out = sym (plain _) ∙ sym (c .before .keeps3 .ensures) ∙ denied (c .if3 .taken) in
     gone-not (at .loop .inv) (c .before .before .before .before .before .before .before .before .before .loop-test .taken) (λ backed. true≢false (sym (backed mark .1) ∙ out))
 
 add-i : tie.Need-add-i Inv-loop μ-loop
@@ -79,10 +81,11 @@ loop-less c =
 loop-again : tie.Need-loop-again Inv-loop μ-loop
 loop-again c =
     let at = c .before .before .before .before in
-    let mark = sym (c .before .kept .ensures) in
+    let plain = at .before .before .pre .plain in
+    let mark = sym (plain _) ∙ sym (c .before .keeps .ensures) in
     gone-on (at .loop .inv)
     (⊎-elim
-    (λ w k. (sym (w .2 .ensures) ∙ denied (w .3 .left), sym (w .5 .ensures) ∙ denied (w .6 .left)))
+    (λ w k. (sym (plain _) ∙ sym (w .2 .ensures) ∙ denied (w .3 .left), sym (plain _) ∙ sym (w .5 .ensures) ∙ denied (w .6 .left)))
     (λ w k. absurd (true≢false (sym k ∙ mark ∙ w .left)))
     (c .if1 .came))
 
@@ -96,15 +99,15 @@ along-spec =
     Inv-loop
     μ-loop
     loop-holds
-    shared-slice-read-kept
-    kept-requires
-    sub-kept
-    shared-slice-read-kept-2
-    kept-requires-2
+    shared-slice-read-keeps
+    keeps-requires
+    sub-keeps
+    shared-slice-read-keeps-2
+    keeps-requires-2
     returns
-    add-kept
-    shared-slice-read-kept-3
-    kept-requires-3
+    add-keeps
+    shared-slice-read-keeps-3
+    keeps-requires-3
     returns-2
     add-i
     loop-less

@@ -4,8 +4,7 @@ use mathlib.Core.Bool.{false}
 use native.Mathlib.Omega.{arith}
 use Rattle.mesh.specs.Closed.{keptBy}
 use Rattle.mesh.proofs.Asked.{spaced-small, row-small, other-across, centre-stride, centre-told}
-use Rattle.mesh.proofs.Lines.{line-not, line-halves}
-use Rattle.mesh.proofs.Passing.{denied}
+use Rattle.mesh.proofs.Lines.{line-halves}
 use borrow.Author.Needs.{needs}
 use Rattle.mesh.proofs.closed.centre_row_closed.Statement.{statement}
 use Rattle.mesh.proofs.closed.centre_row_closed.Tie as tie
@@ -19,6 +18,18 @@ add-row c = search needs
 mul-at : tie.Need-mul-at
 mul-at c =
     let s = c .before .before in record { fits = omega (arith, spaced-small (s .pre .0), row-small (s .pre .0) (s .pre .1)) }
+
+mul-other : tie.Need-mul-other
+mul-other c =
+    let s = c .before .before in record { fits = omega (arith, spaced-small (s .pre .0), row-small (s .pre .0) (s .pre .1)) }
+
+mul-other-2 : tie.Need-mul-other-2
+mul-other-2 c =
+    let s = c .before .before in record { fits = omega (arith, spaced-small (s .pre .0), row-small (s .pre .0) (s .pre .1)) }
+
+sub-other : tie.Need-sub-other
+sub-other c =
+    let s = c .before .before in row-small (s .pre .0) (s .pre .1) .2
 
 add-along : tie.Need-add-along
 add-along c =
@@ -36,49 +47,31 @@ along-requires : tie.Need-along-requires
 along-requires c κs =
     let s = c .before .before in centre-stride (s .pre .0) (s .pre .1 .line) 1 refl (s .pre .1 .across) (omega arith)
 
-returns : tie.Need-returns
-returns c =
-    let s = c .before .before .before .before in
-    line-not (s .pre .0 .power) (keptBy (s .args .g .m) (s .args .marks .now)) false (s .args .y)
-    (centre-told (s .pre .0) (s .pre .1 .line) 1 refl (s .pre .1 .across) (omega arith) (c .before .along .ensures)) (denied (c .if1 .taken))
-
-mul-other : tie.Need-mul-other
-mul-other c =
-    let s = c .before .before .before .before in record { fits = omega (arith, spaced-small (s .pre .0), row-small (s .pre .0) (s .pre .1)) }
-
-mul-other-2 : tie.Need-mul-other-2
-mul-other-2 c =
-    let s = c .before .before .before .before in record { fits = omega (arith, spaced-small (s .pre .0), row-small (s .pre .0) (s .pre .1)) }
-
-sub-other : tie.Need-sub-other
-sub-other c =
-    let s = c .before .before .before .before in row-small (s .pre .0) (s .pre .1) .2
-
 mul-along-2 : tie.Need-mul-along-2
 mul-along-2 c =
-    let s = c .before .before .before .before in record { fits = omega (arith, spaced-small (s .pre .0), row-small (s .pre .0) (s .pre .1)) }
+    let s = c .before .before .before in record { fits = omega (arith, spaced-small (s .pre .0), row-small (s .pre .0) (s .pre .1)) }
 
 add-along-3 : tie.Need-add-along-3
 add-along-3 c =
-    let s = c .before .before .before .before in record { fits = omega (arith, spaced-small (s .pre .0), row-small (s .pre .0) (s .pre .1)) }
+    let s = c .before .before .before in record { fits = omega (arith, spaced-small (s .pre .0), row-small (s .pre .0) (s .pre .1)) }
 
 add-along-4 : tie.Need-add-along-4
 add-along-4 c =
-    let s = c .before .before .before .before in record { fits = omega (arith, spaced-small (s .pre .0), row-small (s .pre .0) (s .pre .1)) }
+    let s = c .before .before .before in record { fits = omega (arith, spaced-small (s .pre .0), row-small (s .pre .0) (s .pre .1)) }
 
 mul-along-3 : tie.Need-mul-along-3
 mul-along-3 c =
-    let s = c .before .before .before .before in record { fits = omega (arith, spaced-small (s .pre .0), row-small (s .pre .0) (s .pre .1)) }
+    let s = c .before .before .before in record { fits = omega (arith, spaced-small (s .pre .0), row-small (s .pre .0) (s .pre .1)) }
 
 along-requires-2 : tie.Need-along-requires-2
 along-requires-2 c κs =
-    let s = c .before .before .before .before in centre-stride (s .pre .0) (s .pre .1 .line) 3 refl (other-across (s .pre .0) (s .pre .1)) refl
+    let s = c .before .before .before in centre-stride (s .pre .0) (s .pre .1 .line) 3 refl (other-across (s .pre .0) (s .pre .1)) refl
 
-returns-2 : tie.Need-returns-2
-returns-2 c =
-    let s = c .before .before .before .before .before in
+returns : tie.Need-returns
+returns c =
+    let s = c .before .before .before .before in
     line-halves (s .pre .0 .power) (keptBy (s .args .g .m) (s .args .marks .now)) false (s .args .y)
-    (centre-told (s .pre .0) (s .pre .1 .line) 1 refl (s .pre .1 .across) (omega arith) (c .before .before .along .ensures)) (denied (c .before .if1 .left))
+    (centre-told (s .pre .0) (s .pre .1 .line) 1 refl (s .pre .1 .across) (omega arith) (c .before .along .ensures))
     (centre-told (s .pre .0) (s .pre .1 .line) 3 refl (other-across (s .pre .0) (s .pre .1)) refl (c .along2 .ensures))
 
 pub centre-row-closed-spec : {M : Type 1} → statement M
@@ -88,17 +81,16 @@ centre-row-closed-spec =
     cast-n
     add-row
     mul-at
+    mul-other
+    mul-other-2
+    sub-other
     add-along
     add-along-2
     mul-along
     along-requires
-    returns
-    mul-other
-    mul-other-2
-    sub-other
     mul-along-2
     add-along-3
     add-along-4
     mul-along-3
     along-requires-2
-    returns-2)
+    returns)

@@ -1,18 +1,17 @@
--- `mesh::closed::centres_closed` meets its contract. The invariant: the rows of centres before y are closed.
+-- `mesh::closed::centres_closed` meets its contract. The invariant: all tells whether the rows of centres before y are closed.
 use Prim.Native.Nat.{suc, _-_}
 use native.Mathlib.Omega.{arith}
 use Rattle.mesh.specs.Closed.{keptBy}
 use Rattle.mesh.proofs.Asked.{spaced-small, ups-small, row-small}
-use Rattle.mesh.proofs.Lines.{PassedCentres, centres-first, centre-row-here, centres-on, lines-not, passed-last, tells-true}
-use Rattle.mesh.proofs.Passing.{denied}
+use Rattle.mesh.proofs.Lines.{PassedCentres, centres-first, centre-row-here, centres-on, passed-last}
 use Rattle.mesh.proofs.closed.centres_closed.Statement.{statement}
 use Rattle.mesh.proofs.closed.centres_closed.Tie as tie
 
 abbrev Inv-loop : tie.InvT-loop
-Inv-loop g s marks n up d₀ y₀ d y = PassedCentres (g .m) s (keptBy (g .m) marks) y d
+Inv-loop g s marks n up d₀ all₀ y₀ d all y = PassedCentres (g .m) s (keptBy (g .m) marks) y d all
 
 abbrev μ-loop : tie.MeasureT-loop
-μ-loop g s marks n up d₀ y₀ d y = suc n - y
+μ-loop g s marks n up d₀ all₀ y₀ d all y = suc n - y
 
 cast-n : tie.Need-cast-n Inv-loop μ-loop
 cast-n c =
@@ -38,48 +37,42 @@ centre-row-closed-requires c κs =
     let s = c .before .before .before .before in
     (s .pre, centre-row-here (s .pre .power) _ (c .before .loop .inv) (rw (s .pre .sound .sided) at (c .loop-test .taken)))
 
-returns : tie.Need-returns Inv-loop μ-loop
-returns c =
-    let s = c .before .before .before .before .before .before in
-    let l = rw (s .pre .sound .sided) at (c .before .before .loop-test .taken) in
-    lines-not (s .pre .power) _ _ 1 (c .before .before .before .loop .inv .passed) l (c .before .centre-row-closed .ensures) (denied (c .if1 .taken))
-
 mul-y : tie.Need-mul-y Inv-loop μ-loop
 mul-y c =
-    let s = c .before .before .before .before .before .before in
-    record { fits = omega (arith, spaced-small (s .pre), ups-small (s .pre), c .before .before .loop-test .taken) }
+    let s = c .before .before .before .before .before in
+    record { fits = omega (arith, spaced-small (s .pre), ups-small (s .pre), c .before .loop-test .taken) }
 
 add-y : tie.Need-add-y Inv-loop μ-loop
 add-y c =
-    let s = c .before .before .before .before .before .before in
-    record { fits = omega (arith, spaced-small (s .pre), ups-small (s .pre), c .before .before .loop-test .taken) }
+    let s = c .before .before .before .before .before in
+    record { fits = omega (arith, spaced-small (s .pre), ups-small (s .pre), c .before .loop-test .taken) }
 
 mul-d : tie.Need-mul-d Inv-loop μ-loop
 mul-d c =
-    let s = c .before .before .before .before .before .before in
-    record { fits = omega (arith, spaced-small (s .pre), ups-small (s .pre), c .before .before .loop-test .taken) }
+    let s = c .before .before .before .before .before in
+    record { fits = omega (arith, spaced-small (s .pre), ups-small (s .pre), c .before .loop-test .taken) }
 
 sub-d-2 : tie.Need-sub-d-2 Inv-loop μ-loop
 sub-d-2 c =
-    let s = c .before .before .before .before .before .before in
-    let l = rw (s .pre .sound .sided) at (c .before .before .loop-test .taken) in
-    row-small (s .pre) (centre-row-here (s .pre .power) _ (c .before .before .before .loop .inv) l) .2
+    let s = c .before .before .before .before .before in
+    let l = rw (s .pre .sound .sided) at (c .before .loop-test .taken) in
+    row-small (s .pre) (centre-row-here (s .pre .power) _ (c .before .before .loop .inv) l) .2
 
 loop-less : tie.Need-loop-less Inv-loop μ-loop
 loop-less c =
-    let s = c .before .before .before .before .before .before in
-    omega (arith, spaced-small (s .pre), c .before .before .loop-test .taken)
+    let s = c .before .before .before .before .before in
+    omega (arith, spaced-small (s .pre), c .before .loop-test .taken)
 
 loop-again : tie.Need-loop-again Inv-loop μ-loop
 loop-again c =
-    let s = c .before .before .before .before .before .before in
-    rw (s .pre .sound .sided)
-    (centres-on (s .pre .power) _ (c .before .before .before .loop .inv) (c .before .centre-row-closed .ensures) (denied (c .if1 .left)))
+    let s = c .before .before .before .before .before in
+    let l = rw (s .pre .sound .sided) at (c .before .loop-test .taken) in
+    rw (s .pre .sound .sided) (centres-on (s .pre .power) _ (c .before .before .loop .inv) l (c .centre-row-closed .ensures))
 
-returns-2 : tie.Need-returns-2 Inv-loop μ-loop
-returns-2 c =
+returns : tie.Need-returns Inv-loop μ-loop
+returns c =
     let s = c .before .before .before .before in
-    tells-true (passed-last (s .pre .power) _ _ 1 (c .before .loop .inv .passed) (rw (s .pre .sound .sided) at (c .loop-test .left)))
+    passed-last (s .pre .power) _ _ 1 (c .before .loop .inv .passed) (rw (s .pre .sound .sided) at (c .loop-test .left))
 
 pub centres-closed-spec : {M : Type 1} → statement M
 centres-closed-spec =
@@ -93,11 +86,10 @@ centres-closed-spec =
     sub-d
     loop-holds
     centre-row-closed-requires
-    returns
     mul-y
     add-y
     mul-d
     sub-d-2
     loop-less
     loop-again
-    returns-2)
+    returns)

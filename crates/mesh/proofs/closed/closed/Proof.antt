@@ -5,7 +5,7 @@ use Rattle.grid.proofs.Places.{side-small}
 use Rattle.mesh.specs.Closed.{keptBy}
 use Rattle.mesh.proofs.Lines.{Spacings, spacings-first, power-here, spacings-not, spacings-on, spacings-last}
 use Rattle.mesh.proofs.Passing.{denied}
-use Rattle.mesh.proofs.Strides.{positive}
+use Rattle.grid.proofs.Powers.{positive}
 use Rattle.mesh.proofs.closed.closed.Statement.{statement}
 use Rattle.mesh.proofs.closed.closed.Tie as tie
 
@@ -26,7 +26,7 @@ spacing-closed-requires : tie.Need-spacing-closed-requires Inv-loop μ-loop
 spacing-closed-requires c κs =
     let s = c .before .before .before .before in
     let l = rw (s .pre .0 .sided) at (c .loop-test .taken) in
-    record { sound = s .pre .0; long = s .pre .1; power = power-here _ _ (c .before .loop .inv) l }
+    record { sound = s .pre .0; long = s .pre .1; plain = s .pre .2; power = power-here _ _ (c .before .loop .inv) l }
 
 returns : tie.Need-returns Inv-loop μ-loop
 returns c = spacings-not _ _ (c .before .before .before .loop .inv) (c .before .spacing-closed .ensures) (denied (c .if1 .taken))

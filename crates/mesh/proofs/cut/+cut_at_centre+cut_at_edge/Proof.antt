@@ -5,7 +5,7 @@ use mathlib.Core.Logic.{⊎-elim}
 use Prim.Native.Nat.{ℕ, _-_, _<_, _≤_}
 use native.Mathlib.Omega.{arith}
 use Rattle.mesh.specs.Inner.{keptPlace, Put}
-use Rattle.mesh.proofs.Halves.{put-long, three-room, written, Halved, some-left, half-corners, half-room, odd-half, even-half, none-put, half-put, both-put}
+use Rattle.mesh.proofs.Halves.{put-long, three-room, written, Halved, some-left, half-corners, half-room, odd-cut, odd-half, even-half, none-put, half-put, both-put}
 use borrow.Author.Needs.{needs}
 use borrow.Fn.Kinds.{In}
 use borrow.Fn.PlainCycle.{Measures, is, falls, and}
@@ -17,6 +17,8 @@ use Rattle.mesh.proofs.cut.cut_at_edge.Kinds as edge-kinds
 use Rattle.mesh.proofs.cut.+cut_at_centre+cut_at_edge.Lts-cut_at_edge as edge-lts
 use Rattle.grid.proofs.Grid.midpoint.Reads as midpoint-reads
 use Rattle.mesh.proofs.cut.is_cut.Reads as is-cut-reads
+use Rattle.mesh.proofs.cut.last_cuts.Reads as last-cuts-reads
+use Rattle.mesh.proofs.cut.midpoint_kept.Reads as midpoint-kept-reads
 use Rattle.mesh.proofs.cut.put.Reads as put-reads
 use Rattle.mesh.proofs.cut.+cut_at_centre+cut_at_edge.{statement}
 use Rattle.mesh.proofs.cut.+cut_at_centre+cut_at_edge.Tie.{close}
@@ -41,7 +43,7 @@ edge-below t = and 2 edge-kinds.ps (falls 2 edge-kinds.ps _<_ μ-edge t) edge.Pr
 
 -- what each call asks and tells
 abbrev centre-calls : ℕ → centre-lts.Claims
-centre-calls t = (midpoint-reads.Asked, midpoint-reads.Learnt, is-cut-reads.Asked, is-cut-reads.Learnt, edge-below t, edge.Post, put-reads.Asked, put-reads.Learnt)
+centre-calls t = (midpoint-reads.Asked, midpoint-reads.Learnt, midpoint-kept-reads.Asked, midpoint-kept-reads.Learnt, edge-below t, edge.Post, put-reads.Asked, put-reads.Learnt)
 
 abbrev centre-Inv : centre-lts.InvT-loop
 centre-Inv marks left l a r at places₀ centre odd sides next₀ half₀ places next half =
@@ -83,10 +85,9 @@ centre-mul-q t c = search needs
 centre-array-read-q : (t : ℕ) → centre-lts.Need-array-read-q (centre-calls t) (centre-at t) centre.Post centre-Inv centre-μ
 centre-array-read-q t c = search needs
 
-centre-is-cut-requires : (t : ℕ) → centre-lts.Need-is-cut-requires (centre-calls t) (centre-at t) centre.Post centre-Inv centre-μ
-centre-is-cut-requires t c κs =
-    let k = half-corners (centre-halved (c .before .before)) (c .before .loop .half) (c .loop-test .taken) in
-    (k .small, k .left, k .right)
+centre-midpoint-kept-requires : (t : ℕ) → centre-lts.Need-midpoint-kept-requires (centre-calls t) (centre-at t) centre.Post centre-Inv centre-μ
+centre-midpoint-kept-requires t c κs =
+    half-corners (centre-halved (c .before .before)) (c .before .loop .half) (c .loop-test .taken) .ends
 
 centre-cut-at-edge-requires : (t : ℕ) → centre-lts.Need-cut-at-edge-requires (centre-calls t) (centre-at t) centre.Post centre-Inv centre-μ
 centre-cut-at-edge-requires t c κs =
@@ -97,7 +98,7 @@ centre-cut-at-edge-requires t c κs =
       omega (arith, s .pre .0, some-left h),
       (
         half-corners h (w .half) below,
-        sym (c .before .before .is-cut .ensures) ∙ c .before .if1 .taken,
+        odd-cut h (w .half) (s .pre .1 .2) (c .before .before .midpoint-kept .ensures) ∙ c .before .if1 .taken,
         omega (arith, s .pre .1 .2, some-left h),
         half-room h (w .half) below (w .inv .1),
       ),
@@ -109,7 +110,8 @@ centre-put-requires t c κs =
     let w = c .before .before .before .before .loop in
     let below = c .before .before .before .loop-test .taken in
     let k = half-corners h (w .half) below in
-    let whole = odd-half h (w .half) (c .before .before .before .before .before .before .before .before .pre .1 .2) (sym (c .before .before .is-cut .ensures) ∙ c .before .if1 .left) in
+    let even = c .before .before .before .before .before .before .before .before .pre .1 .2 in
+    let whole = odd-half h (w .half) even (odd-cut h (w .half) even (c .before .before .midpoint-kept .ensures) ∙ c .before .if1 .left) in
     let room = half-room h (w .half) below (w .inv .1) in
     (omega (arith, k), omega (arith, k), omega (arith, k), three-room (w .next) whole room)
 
@@ -123,8 +125,9 @@ centre-loop-again : (t : ℕ) → centre-lts.Need-loop-again (centre-calls t) (c
 centre-loop-again t c =
     let h = centre-halved (c .before .before .before .before) in
     let w = c .before .before .before .loop in
-    let whole = odd-half h (w .half) (c .before .before .before .before .before .before .before .pre .1 .2) in
-    let told = sym (c .before .is-cut .ensures) in (
+    let even = c .before .before .before .before .before .before .before .pre .1 .2 in
+    let whole = odd-half h (w .half) even in
+    let told = odd-cut h (w .half) even (c .before .midpoint-kept .ensures) in (
       omega (arith, c .before .before .loop-test .taken),
       half-put h (w .half) (w .inv .1)
           (⊎-elim (λ x. rw (x .5, x .6) (x .2 .ensures)) (λ x. rw (whole (told ∙ x .0 .left), x .5, x .6) (x .2 .ensures)) (c .if1 .came)),
@@ -140,7 +143,7 @@ centre-returns t c =
 
 -- what each call asks and tells
 abbrev edge-calls : ℕ → edge-lts.Claims
-edge-calls t = (midpoint-reads.Asked, midpoint-reads.Learnt, is-cut-reads.Asked, is-cut-reads.Learnt, centre-below t, centre.Post, put-reads.Asked, put-reads.Learnt)
+edge-calls t = (midpoint-reads.Asked, midpoint-reads.Learnt, is-cut-reads.Asked, is-cut-reads.Learnt, last-cuts-reads.Asked, last-cuts-reads.Learnt, centre-below t, centre.Post, put-reads.Asked, put-reads.Learnt)
 
 abbrev edge-Inv : edge-lts.InvT-loop
 edge-Inv marks left l a r at places₀ edge even diagonals next₀ half₀ places next half =
@@ -184,19 +187,29 @@ edge-array-read-q t c = search needs
 
 edge-is-cut-requires : (t : ℕ) → edge-lts.Need-is-cut-requires (edge-calls t) (edge-at t) edge.Post edge-Inv edge-μ
 edge-is-cut-requires t c κs =
-    let k = half-corners (edge-halved (c .before .before)) (c .before .loop .half) (c .loop-test .taken) in
-    (k .small, k .left, k .right)
+    half-corners (edge-halved (c .before .before)) (c .before .loop .half) (c .loop-test .taken) .ends
+
+edge-last-cuts-requires : (t : ℕ) → edge-lts.Need-last-cuts-requires (edge-calls t) (edge-at t) edge.Post edge-Inv edge-μ
+edge-last-cuts-requires t c κs =
+    let h = edge-halved (c .before .before .before .before .before .before) in
+    let w = c .before .before .before .before .before .loop in
+    let below = c .before .before .before .before .loop-test .taken in
+    let two = c .before .if2 .taken in (
+      half-corners h (w .half) below,
+      rw two at (sym (c .before .before .before .is-cut .ensures) ∙ c .before .before .if1 .taken),
+      rw two at (half-room h (w .half) below (w .inv .1)),
+    )
 
 edge-cut-at-centre-requires : (t : ℕ) → edge-lts.Need-cut-at-centre-requires (edge-calls t) (edge-at t) edge.Post edge-Inv edge-μ
 edge-cut-at-centre-requires t c κs =
-    let s = c .before .before .before .before .before .before .before .before in
-    let h = edge-halved (c .before .before .before .before .before) in
-    let w = c .before .before .before .before .loop in
-    let below = c .before .before .before .loop-test .taken in (
+    let s = c .before .before .before .before .before .before .before .before .before in
+    let h = edge-halved (c .before .before .before .before .before .before) in
+    let w = c .before .before .before .before .before .loop in
+    let below = c .before .before .before .before .loop-test .taken in (
       omega (arith, s .pre .0, some-left h),
       (
         half-corners h (w .half) below,
-        sym (c .before .before .is-cut .ensures) ∙ c .before .if1 .taken,
+        sym (c .before .before .before .is-cut .ensures) ∙ c .before .before .if1 .taken,
         omega (arith, s .pre .1 .2, some-left h),
         half-room h (w .half) below (w .inv .1),
       ),
@@ -226,7 +239,8 @@ edge-loop-again t c =
     let told = sym (c .before .is-cut .ensures) in (
       omega (arith, c .before .before .loop-test .taken),
       half-put h (w .half) (w .inv .1)
-          (⊎-elim (λ x. rw (x .5, x .6) (x .2 .ensures)) (λ x. rw (whole (told ∙ x .0 .left), x .5, x .6) (x .2 .ensures)) (c .if1 .came)),
+          (⊎-elim (λ x. rw (x .1 .taken, x .6, x .7) (x .3 .ensures))
+          (⊎-elim (λ x. rw (x .6, x .7) (x .3 .ensures)) (λ x. rw (whole (told ∙ x .0 .left), x .5, x .6) (x .2 .ensures))) (c .if1 .came)),
     )
 
 edge-same-length : (t : ℕ) → edge-lts.Need-same-length (edge-calls t) (edge-at t) edge.Post edge-Inv edge-μ
@@ -251,7 +265,7 @@ pub +cut-at-centre+cut-at-edge-spec : {M : Type 1} → statement M
     (centre-add-q t)
     (centre-mul-q t)
     (centre-array-read-q t)
-    (centre-is-cut-requires t)
+    (centre-midpoint-kept-requires t)
     (centre-cut-at-edge-requires t)
     (centre-put-requires t)
     (centre-add-half t)
@@ -273,6 +287,7 @@ pub +cut-at-centre+cut-at-edge-spec : {M : Type 1} → statement M
     (edge-mul-q t)
     (edge-array-read-q t)
     (edge-is-cut-requires t)
+    (edge-last-cuts-requires t)
     (edge-cut-at-centre-requires t)
     (edge-put-requires t)
     (edge-add-half t)

@@ -17,13 +17,13 @@ abbrev μ-loop : tie.MeasureT-loop
 μ-loop marks from to count₀ i₀ count i = to - i
 
 loop-holds : tie.Need-loop-holds Inv-loop μ-loop
-loop-holds c = let s = c .before in (omega arith, s .pre .0, rw (sub-self (s .args .from)))
+loop-holds c = let s = c .before in (omega arith, s .pre .1, rw (sub-self (s .args .from)))
 
 shared-slice-read-one-if-kept : tie.Need-shared-slice-read-one-if-kept Inv-loop μ-loop
-shared-slice-read-one-if-kept c = omega (arith, c .before .before .before .before .pre .2, c .before .loop-test .taken)
+shared-slice-read-one-if-kept c = omega (arith, c .before .before .before .before .pre .3, c .before .loop-test .taken)
 
 one-if-kept-requires : tie.Need-one-if-kept-requires Inv-loop μ-loop
-one-if-kept-requires c κs = search needs
+one-if-kept-requires c κs = c .before .before .before .before .pre .0 _
 
 add-count : tie.Need-add-count Inv-loop μ-loop
 add-count c =
@@ -32,7 +32,7 @@ add-count c =
     let marks = s .args .marks .now in
     let most = kept-most marks (s .args .from) (at .i - s .args .from) in
     let one = one-most (keptPlace marks (at .i)) (c .one-if-kept .ensures) in
-    record { fits = omega (arith, at .inv, s .pre .1, most, one, c .before .before .loop-test .taken) }
+    record { fits = omega (arith, at .inv, s .pre .2, most, one, c .before .before .loop-test .taken) }
 
 add-i : tie.Need-add-i Inv-loop μ-loop
 add-i c = search needs

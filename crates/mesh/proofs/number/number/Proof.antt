@@ -28,7 +28,7 @@ mul-north c =
 
 between-ends-requires : tie.Need-between-ends-requires Inv-loop μ-loop
 between-ends-requires c κs =
-    let s = c .before .before in row-at (s .pre .0) (s .pre .1) (omega arith)
+    let s = c .before .before in row-at (s .pre .0) (s .pre .2) (s .pre .1) (omega arith)
 
 add-triangles : tie.Need-add-triangles Inv-loop μ-loop
 add-triangles c =
@@ -38,7 +38,7 @@ add-triangles c =
 
 between-ends-requires-2 : tie.Need-between-ends-requires-2 Inv-loop μ-loop
 between-ends-requires-2 c κs =
-    let s = c .before .before .before in row-at (s .pre .0) (s .pre .1) (omega arith)
+    let s = c .before .before .before in row-at (s .pre .0) (s .pre .2) (s .pre .1) (omega arith)
 
 add-triangles-2 : tie.Need-add-triangles-2 Inv-loop μ-loop
 add-triangles-2 c =
@@ -53,7 +53,7 @@ loop-holds c = λ m e. rw e (counted-first m _ refl (rw e at (c .before .between
 
 inner-row-requires : tie.Need-inner-row-requires Inv-loop μ-loop
 inner-row-requires c κs =
-    let s = c .before .before .before .before .before .before in row-at (s .pre .0) (s .pre .1) (omega (arith, c .loop-test .taken))
+    let s = c .before .before .before .before .before .before in row-at (s .pre .0) (s .pre .2) (s .pre .1) (omega (arith, c .loop-test .taken))
 
 add-triangles-3 : tie.Need-add-triangles-3 Inv-loop μ-loop
 add-triangles-3 c =

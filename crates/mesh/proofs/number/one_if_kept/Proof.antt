@@ -4,14 +4,14 @@ use borrow.Author.Needs.{needs}
 use Rattle.mesh.proofs.number.one_if_kept.Statement.{statement}
 use Rattle.mesh.proofs.number.one_if_kept.Tie as tie
 
-kept-requires : tie.Need-kept-requires
-kept-requires c κs = search needs
+keeps-requires : tie.Need-keeps-requires
+keeps-requires c κs = search needs
 
 returns : tie.Need-returns
-returns c = rw (sym (c .before .kept .ensures) ∙ c .if1 .taken)
+returns c = rw (sym (c .before .before .pre) ∙ sym (c .before .keeps .ensures) ∙ c .if1 .taken)
 
 returns-2 : tie.Need-returns-2
-returns-2 c = rw (sym (c .before .kept .ensures) ∙ c .if1 .left)
+returns-2 c = rw (sym (c .before .before .pre) ∙ sym (c .before .keeps .ensures) ∙ c .if1 .left)
 
 pub one-if-kept-spec : {M : Type 1} → statement M
-one-if-kept-spec = tie.close (tie.spec kept-requires returns returns-2)
+one-if-kept-spec = tie.close (tie.spec keeps-requires returns returns-2)

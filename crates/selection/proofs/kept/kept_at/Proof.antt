@@ -4,7 +4,7 @@ use Prim.Native.Nat.{ℕ}
 use borrow.Author.Needs.{needs}
 use lib.ListN.{getD}
 use Rattle.grid.proofs.OnGrid.{room}
-use Rattle.selection.specs.Inner.{keeps}
+use Rattle.grid.specs.Inner.{keeps}
 use Rattle.selection.proofs.kept.kept_at.Statement.{statement}
 use Rattle.selection.proofs.kept.kept_at.Tie as tie
 

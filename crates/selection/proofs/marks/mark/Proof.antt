@@ -22,8 +22,9 @@ use Rattle.survey.proofs.Reading.{read}
 use Rattle.survey.proofs.Rule.{length-filled}
 use Rattle.selection.specs.Error.{doubledError, exceeding}
 use Rattle.selection.specs.Marks.{markBy}
-use Rattle.selection.specs.Inner.{Ready, Spread}
-use Rattle.selection.proofs.Reach.{between}
+use Rattle.grid.specs.Inner.{Spread}
+use Rattle.selection.specs.Inner.{Ready}
+use Rattle.grid.proofs.Reach.{between}
 use Rattle.selection.proofs.Within.{void-within, exceeding-filled}
 use Rattle.selection.proofs.marks.mark.Statement.{statement}
 use Rattle.selection.proofs.marks.mark.Tie as tie
@@ -38,7 +39,7 @@ abbrev reading : List ℤ → ℕ → ℤ
 reading l i = toZ w16 (ofZ w16 (getD l i (pos 0)))
 
 -- i is p's place
-module _ {g : Grid} {survey heights : List ℤ} {p : Point} {d i : ℕ} (ready : Ready g survey heights) (spread : Spread (g .m) p d)
+module _ {g : Grid} {limit : ℕ} {survey heights : List ℤ} {p : Point} {d i : ℕ} (ready : Ready g limit survey heights) (spread : Spread (g .m) p d)
     (is : i ≡ place (g .m) p) where
   long : length heights ≡ samples (g .m)
   long = rw (ready .filled) (length-filled (g .m) survey)

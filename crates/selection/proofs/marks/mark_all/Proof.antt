@@ -5,7 +5,7 @@ use native.Mathlib.Omega.{arith}
 use Rattle.grid.proofs.Places.{side-small}
 use Rattle.selection.specs.Marks.{marksOf}
 use Rattle.selection.specs.Inner.{markOver}
-use Rattle.selection.proofs.Sweeps.{spacing-small}
+use Rattle.grid.proofs.Powers.{spacing-small}
 use Rattle.selection.proofs.Ranks.{Spacings, spacings-begin, spacing-below, edges-asked, spacings-on, spacings-end}
 use Rattle.selection.proofs.marks.mark_all.Statement.{statement}
 use Rattle.selection.proofs.marks.mark_all.Tie as tie

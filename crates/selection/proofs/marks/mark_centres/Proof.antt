@@ -4,8 +4,9 @@ use Prim.Native.Nat.{_-_}
 use native.Mathlib.Omega.{arith}
 use Rattle.grid.proofs.Places.{side-small}
 use Rattle.selection.specs.Inner.{markOver}
-use Rattle.selection.proofs.Rows.{centre-kind}
-use Rattle.selection.proofs.Sweeps.{CentreRows, spacing-small, row-asks, gives, centres-begin, centre-here, centre-on, centre-last}
+use Rattle.grid.proofs.Rows.{centre-kind}
+use Rattle.grid.proofs.Powers.{spacing-small}
+use Rattle.selection.proofs.Sweeps.{CentreRows, row-asks, gives, centres-begin, centre-here, centre-on, centre-last}
 use Rattle.selection.proofs.marks.mark_centres.Statement.{statement}
 use Rattle.selection.proofs.marks.mark_centres.Tie as tie
 

@@ -5,7 +5,8 @@ use Prim.Native.Nat.{_-_}
 use native.Mathlib.Omega.{arith}
 use Rattle.grid.proofs.Places.{side-small}
 use Rattle.selection.specs.Inner.{markOver}
-use Rattle.selection.proofs.Sweeps.{EdgeRows, spacing-small, row-asks, gives, edges-begin, edge-east, edge-north, edge-on, edge-last}
+use Rattle.grid.proofs.Powers.{spacing-small}
+use Rattle.selection.proofs.Sweeps.{EdgeRows, row-asks, gives, edges-begin, edge-east, edge-north, edge-on, edge-last}
 use Rattle.selection.proofs.marks.mark_edges.Statement.{statement}
 use Rattle.selection.proofs.marks.mark_edges.Tie as tie
 
