@@ -13,6 +13,11 @@ use Rattle.aim.specs.declared.HeightAnswer.{HeightAnswer}
 use Rattle.aim.specs.declared.PlaneAnswer.{PlaneAnswer}
 use Rattle.aim.proofs.height.Reads as height
 use Rattle.aim.proofs.plane.Reads as plane
+use Rattle.head.specs.declared.Crossed.{Crossed}
+use Rattle.head.proofs.mosskirtle_select.Reads as c-select
+use Rattle.head.proofs.mosskirtle_triangles.Reads as c-triangles
+use Rattle.head.proofs.mosskirtle_height.Reads as c-height
+use Rattle.head.proofs.mosskirtle_plane.Reads as c-plane
 use Rattle.frame.specs.declared.Frame.{Frame}
 use Rattle.frame.proofs.read.Reads as read
 use Rattle.frame.proofs.heights.Reads as heights
@@ -42,3 +47,18 @@ heights-once k a r r′ o o′ p q = no-second .heights _ r r′ _ _ p q
 
 pub size-once : (k : _) (a : _) (r r′ : SizeAnswer) (o o′ : _) → size-of.Learnt k a r o → size-of.Learnt k a r′ o′ → r ≡ r′
 size-once k a r r′ o o′ p q = no-second .size (a .0) r r′ p q
+
+-- C's calls
+pub c-select-once : (k : _) (a : _) (r r′ : Selected) (o o′ : _) → c-select.Learnt k a r o → c-select.Learnt k a r′ o′ →
+    SameSelection r r′ (now (o .1 .1 .1 .0)) (now (o′ .1 .1 .1 .0)) (now (o .1 .1 .1 .1 .0)) (now (o′ .1 .1 .1 .1 .0))
+c-select-once k a r r′ o o′ p q = no-second .select _ r r′ _ _ _ _ p q
+
+pub c-triangles-once : (k : _) (a : _) (r r′ : Meshed) (o o′ : _) → c-triangles.Learnt k a r o → c-triangles.Learnt k a r′ o′ →
+    SameTriangles r r′ (now (o .1 .1 .0)) (now (o′ .1 .1 .0))
+c-triangles-once k a r r′ o o′ p q = no-second .triangles _ r r′ _ _ p q
+
+pub c-height-once : (k : _) (a : _) (r r′ : Crossed) (o o′ : _) → c-height.Learnt k a r o → c-height.Learnt k a r′ o′ → r ≡ r′
+c-height-once k a r r′ o o′ p q = no-second .crossing _ r r′ p q
+
+pub c-plane-once : (k : _) (a : _) (r r′ : PlaneAnswer) (o o′ : _) → c-plane.Learnt k a r o → c-plane.Learnt k a r′ o′ → r ≡ r′
+c-plane-once k a r r′ o o′ p q = no-second .plane _ r r′ p q

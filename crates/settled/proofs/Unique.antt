@@ -17,4 +17,5 @@ no-second = record {
   heights = λ h r r′ survey survey′ p q. record { answers = p .answer ∙ sym (q .answer); surveyAtExit = p .survey ∙ sym (q .survey) };
   height = λ h r r′ p q. said-only r r′ (p ∙ sym q);
   plane = λ h r r′ p q. p ∙ sym q;
+  crossing = λ h r r′ p q. p ∙ sym q;
 }

@@ -15,6 +15,8 @@ use Rattle.frame.specs.declared.Frame.{Frame}
 use Rattle.aim.specs.Aimed.{Handed as Asking, said, heightAt, planeAt}
 use Rattle.aim.specs.declared.HeightAnswer.{HeightAnswer}
 use Rattle.aim.specs.declared.PlaneAnswer.{PlaneAnswer}
+use Rattle.head.specs.Crossing.{crossed}
+use Rattle.head.specs.declared.Crossed.{Crossed}
 
 -- two outcomes of select are the same: the answer, the marks at exit, the heights at exit
 pub record SameSelection (r r′ : Selected) (marks marks′ : List ℕ) (heights heights′ : List ℤ) : Type 0 where
@@ -32,7 +34,7 @@ pub record SameSurvey (r r′ : ℕ) (survey survey′ : List ℤ) : Type 0 wher
   pub answers : r ≡ r′
   pub surveyAtExit : survey ≡ survey′
 
--- each public call, for everything that it may be handed
+-- each public call, for everything that it may be handed; C's calls make the same promises, but for a height, which crosses as kind and bits
 pub record NoSecond : Type 0 where
   pub size : (m : ℕ) (r r′ : SizeAnswer) → r ≡ sizeAnswer m → r′ ≡ sizeAnswer m → r ≡ r′
   pub select : (h : Surveying) (r r′ : Selected) (marks marks′ : List ℕ) (heights heights′ : List ℤ) →
@@ -43,3 +45,4 @@ pub record NoSecond : Type 0 where
   pub heights : (h : Reading) (r r′ : ℕ) (survey survey′ : List ℤ) → Surveys h r survey → Surveys h r′ survey′ → SameSurvey r r′ survey survey′
   pub height : (h : Asking) (r r′ : HeightAnswer) → said r ≡ heightAt h → said r′ ≡ heightAt h → r ≡ r′
   pub plane : (h : Asking) (r r′ : PlaneAnswer) → r ≡ planeAt h → r′ ≡ planeAt h → r ≡ r′
+  pub crossing : (h : Asking) (r r′ : Crossed) → r ≡ crossed (heightAt h) → r′ ≡ crossed (heightAt h) → r ≡ r′

@@ -1,0 +1,67 @@
+-- What C gets for a height follows document 01's sentences, and whatever follows them is what C gets. Nothing is lost in crossing: only a NaN's bits
+-- could be another's, and no height is a NaN.
+use mathlib.Core.Path.{_≡_, refl, sym, ap, _∙_}
+use mathlib.Core.Bool.{Bool, true, false, cond}
+use mathlib.Core.Logic.{_↔_}
+use lib.Dec.{eqb}
+use lib.Ieee.{Float}
+use lib.Ieee.Bits.{ofBits-toBits}
+use Rattle.grid.specs.Refusal.{accepted}
+use Rattle.survey.specs.Rule.{Sixteen}
+use Rattle.aim.specs.Quotient.{format, plusZero}
+use Rattle.aim.specs.Aimed.{Handed, refusal, Said, nowhere, surveyed, filled, says, said, ended, isFilled, heightAt}
+use Rattle.aim.specs.declared.HeightAnswer.{HeightAnswer}
+use Rattle.aim.specs.declared.HeightAnswer.the-variants.{Surveyed, Filled, Refused}
+use Rattle.aim.proofs.Rule.{follows-height}
+use Rattle.head.specs.Crossing.{crossing, crossed, read, CrossesAs, FollowsCrossed}
+use Rattle.head.specs.declared.Crossed.{Crossed}
+use Rattle.head.proofs.Number.{Number, height-number}
+
+-- by what an answer says, and by its case
+crosses : (a : HeightAnswer) → CrossesAs a (crossed (said a) .kind) (crossed (said a) .bits)
+crosses (Surveyed x) = (refl, refl)
+crosses (Filled x) = (refl, refl)
+crosses (Refused n) = (refl, refl)
+
+crosses-only : (a : HeightAnswer) (r : Crossed) → CrossesAs a (r .kind) (r .bits) → r ≡ crossed (said a)
+crosses-only (Surveyed x) r (k, b) = λ i. crossing (k i) (b i)
+crosses-only (Filled x) r (k, b) = λ i. crossing (k i) (b i)
+crosses-only (Refused n) r (k, b) = λ i. crossing (k i) (b i)
+
+-- read back
+reads : (a : HeightAnswer) → Number (said a .height) → read (crossed (said a)) ≡ said a
+reads (Surveyed x) n = ap (says accepted surveyed) (ofBits-toBits format x (n .holds))
+reads (Filled x) n = ap (says accepted filled) (ofBits-toBits format x (n .holds))
+reads (Refused n) _ = refl
+
+-- what a height says is the say of an answer
+record Spoken (s : Said) : Type 0 where
+  answer : HeightAnswer
+  saying : said answer ≡ s
+
+spoken : (h : Handed) → Spoken (heightAt h)
+unfolding heightAt
+spoken h = by (eqb (refusal h) accepted) (isFilled (h .m) (h .marks) (ended h .triangle)) _
+  where
+    by : (taken full : Bool) (x : Float) →
+        Spoken (cond taken (says accepted (cond full filled surveyed) x) (says (refusal h) nowhere plusZero))
+    by true true x = record { answer = Filled x; saying = refl }
+    by true false x = record { answer = Surveyed x; saying = refl }
+    by false full x = record { answer = Refused (refusal h); saying = refl }
+
+pub follows-crossed : {h : Handed} {r : Crossed} → Sixteen (h .heights) → (r ≡ crossed (heightAt h)) ↔ FollowsCrossed h r
+follows-crossed {h = h} {r = r} small = (there, back)
+  where
+    there : r ≡ crossed (heightAt h) → FollowsCrossed h r
+    there e =
+        let s = spoken h in
+        let same : r ≡ crossed (said (s .answer)) = e ∙ ap crossed (sym (s .saying)) in
+        record {
+          answer = s .answer;
+          follows = follows-height small .0 (s .saying);
+          crosses = rw same (crosses (s .answer));
+          reads = rw same (reads (s .answer) (rw (s .saying) (height-number h)));
+        }
+
+    back : FollowsCrossed h r → r ≡ crossed (heightAt h)
+    back f = crosses-only (f .answer) r (f .crosses) ∙ ap crossed (follows-height small .1 (f .follows))
