@@ -1,0 +1,43 @@
+/* Mutants: one wrong expression each, of the reference or of the brute force over surfaces; the comparison must catch every one. */
+#ifndef MUTANTS_H
+#define MUTANTS_H
+
+enum {
+    NONE,
+    CENTRE_NEEDS_ITS_ENDS,
+    MEAN_TOWARD_ZERO,
+    VOID_HAS_OWN_ERROR,
+    EQUAL_ERROR_KEPT,
+    ONE_SWEEP,
+    FILLED_NOT_COUNTED_DEPENDENT,
+    KEPT_NOT_COUNTED_VOID,
+    LAST_TOLERANCE_REFUSED,
+    TOLERANCE_BEFORE_LENGTH,
+    SECOND_TRIANGLE_WHOLE,
+    PLACES_NEVER_TURNED,
+    ENTRY_PAST_LAST_WRITTEN,
+    CLOSED_BEFORE_GOOD,
+    FULL_ROOM_REFUSED,
+    NEED_NOT_GIVEN,
+    CUTTING_LINE_TO_SECOND,
+    DIAGONAL_TO_SECOND,
+    LAST_POINT_REFUSED,
+    MARK_BEFORE_POINT,
+    QUERY_LOOKS_AT_EVERY_MARK,
+    WEIGHTLESS_VOID_TAKEN,
+    WEIGHTLESS_CORNER_FILLS,
+    NORTH_TURNED_ROUND,
+    BORDER_NOT_HELD,
+    BORDER_IS_INSIDE,
+    LAST_TRIANGLE_NOT_ADDED,
+    WEIGHTS_OF_THE_NEXT_CORNER,
+    TOUCHED_CORNER_FILLS,
+    SLOPE_TAKEN_FOR_HEIGHT
+};
+
+#ifndef MUTANT
+#define MUTANT NONE
+#endif
+#define MUTATED(mutant, good, bad) (MUTANT == (mutant) ? (bad) : (good))
+
+#endif
