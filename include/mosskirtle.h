@@ -33,7 +33,8 @@ enum {
     MOSSKIRTLE_POINT_BEYOND = 5,    /* x or y is above 4N */
     MOSSKIRTLE_BAD_MARK = 6,        /* a mark other than 3 at a grid corner, or other than 0, 1, 2, 4, 6 elsewhere */
     MOSSKIRTLE_NOT_CLOSED = 7,      /* good marks, but a point is kept (1, 2, 3, 6) without all that it depends on */
-    MOSSKIRTLE_NO_ROOM = 8          /* fewer than three places per triangle; triangles says how many triangles there are */
+    MOSSKIRTLE_NO_ROOM = 8          /* triangles: fewer than three places per triangle, whose number is given; strip: fewer places than it
+                                       takes, whose number is given */
 };
 
 /* How a height was come by. */
@@ -45,6 +46,7 @@ enum {
 
 typedef struct { uint32_t refusal, own, dependent, voids; } mosskirtle_selection;
 typedef struct { uint32_t refusal, triangles; } mosskirtle_mesh;
+typedef struct { uint32_t refusal, places; } mosskirtle_strip_answer;
 typedef struct { uint32_t kind, bits; } mosskirtle_height_answer;
 typedef struct { uint32_t refusal; float height, east, north; } mosskirtle_plane_answer;
 
@@ -58,6 +60,13 @@ mosskirtle_selection mosskirtle_select(const int16_t *survey, size_t survey_len,
 /* Writes the triangles that the marks leave, in the order in which the square is cut, three sample places each, counter-clockwise; places
  * past the last stay as they were. Answers their number; 2 * N * N is the most. Looks at every mark. Refusals, in order: 1, 2, 6, 7, 8. */
 mosskirtle_mesh mosskirtle_triangles(const uint8_t *marks, size_t marks_len, uint32_t m, uint16_t *places, size_t places_len);
+
+/* Writes one strip for the whole ring of triangles, for a graphics block; places past the last stay as they were. Read by the usual rule
+ * (each three places in a row; the first as it stands, the second turned over, and so on, those with a repeated place dropped but counted)
+ * it gives exactly the triangles that mosskirtle_triangles writes, in that order and turning the same way. The first triangle starts at the
+ * corner that the second does not have; where a turn needs it, the older of the last two places is repeated. Answers the number of places;
+ * two a triangle is the most, so 4 * N * N. Looks at every mark. Refusals, in order: 1, 2, 6, 7, 8. */
+mosskirtle_strip_answer mosskirtle_strip(const uint8_t *marks, size_t marks_len, uint32_t m, uint16_t *places, size_t places_len);
 
 /* The height of the mesh at a point in quarter cells, 0 to 4N each way: exactly that of its triangle's plane, plus zero for zero. The
  * triangle is found by going down the cuts: on a cutting line to the first half, on the diagonal to the first starting triangle. Only the

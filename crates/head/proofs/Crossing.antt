@@ -3,8 +3,11 @@
 use mathlib.Core.Path.{_≡_, refl, sym, ap, _∙_}
 use mathlib.Core.Bool.{Bool, true, false, cond}
 use mathlib.Core.Logic.{_↔_}
+use Prim.Native.Nat.{ℕ}
+use native.Mathlib.Omega.{arith}
+use borrow.Author.Tests.{eqb-true}
 use lib.Dec.{eqb}
-use lib.Ieee.{Float}
+use lib.Ieee.{Float, ofBits}
 use lib.Ieee.Bits.{ofBits-toBits}
 use Rattle.grid.specs.Refusal.{accepted}
 use Rattle.survey.specs.Rule.{Sixteen}
@@ -12,7 +15,7 @@ use Rattle.aim.specs.Quotient.{format, plusZero}
 use Rattle.aim.specs.Aimed.{Handed, refusal, Said, nowhere, surveyed, filled, says, said, ended, isFilled, heightAt}
 use Rattle.aim.specs.declared.HeightAnswer.{HeightAnswer}
 use Rattle.aim.specs.declared.HeightAnswer.the-variants.{Surveyed, Filled, Refused}
-use Rattle.aim.proofs.Rule.{follows-height}
+use Rattle.aim.proofs.Rule.{kind, follows-height}
 use Rattle.head.specs.Crossing.{crossing, crossed, read, CrossesAs, FollowsCrossed}
 use Rattle.head.specs.declared.Crossed.{Crossed}
 use Rattle.head.proofs.Number.{Number, height-number}
@@ -33,6 +36,20 @@ reads : (a : HeightAnswer) → Number (said a .height) → read (crossed (said a
 reads (Surveyed x) n = ap (says accepted surveyed) (ofBits-toBits format x (n .holds))
 reads (Filled x) n = ap (says accepted filled) (ofBits-toBits format x (n .holds))
 reads (Refused n) _ = refl
+
+-- each case by its number (a slip in the definition, its second form and the code at once would show here alone), and only kind 1 is read as surveyed
+pub named : (x : Float) (n : ℕ) →
+    (crossed (said (Refused n)) ≡ crossing 0 n) × (crossed (said (Surveyed x)) .kind ≡ 1) × (crossed (said (Filled x)) .kind ≡ 2)
+named x n = (refl, refl, refl)
+
+pub read-surveyed : (c : Crossed) → read c .origin ≡ surveyed → c .kind ≡ 1
+read-surveyed c e = by (eqb (c .kind) 0) (eqb (c .kind) 1) refl e
+  where
+    by : (none one : Bool) → eqb (c .kind) 1 ≡ one →
+        cond none (says (c .bits) nowhere plusZero) (says accepted (cond one surveyed filled) (ofBits format (c .bits))) .origin ≡ surveyed → c .kind ≡ 1
+    by true one t e = absurd (omega (arith, ap kind e))
+    by false true t e = eqb-true (c .kind) 1 t
+    by false false t e = absurd (omega (arith, ap kind e))
 
 -- what a height says is the say of an answer
 record Spoken (s : Said) : Type 0 where

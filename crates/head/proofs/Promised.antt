@@ -7,6 +7,8 @@ use Rattle.selection.specs.Selected.{Selects, handed as surveying}
 use Rattle.selection.specs.declared.Selected.{Selected}
 use Rattle.mesh.specs.Meshed.{Meshes, handed as drawing}
 use Rattle.mesh.specs.declared.Meshed.{Meshed}
+use Rattle.strip.specs.Stripped.{Strips}
+use Rattle.strip.specs.declared.Stripped.{Stripped}
 use Rattle.aim.specs.Aimed.{planeAt, handed as asking}
 use Rattle.aim.specs.declared.PlaneAnswer.{PlaneAnswer}
 use Rattle.head.specs.Crossing.{FollowsCrossed}
@@ -14,6 +16,7 @@ use Rattle.head.specs.declared.Crossed.{Crossed}
 use Rattle.head.proofs.Crossing.{follows-crossed}
 use Rattle.head.proofs.mosskirtle_select.Reads as select
 use Rattle.head.proofs.mosskirtle_triangles.Reads as triangles
+use Rattle.head.proofs.mosskirtle_strip.Reads as strip
 use Rattle.head.proofs.mosskirtle_height.Reads as height
 use Rattle.head.proofs.mosskirtle_plane.Reads as plane
 
@@ -24,6 +27,10 @@ select-promised k a r o promise = promise
 pub triangles-promised : (k : _) (a : _) (r : Meshed) (o : _) → triangles.Learnt k a r o →
     Meshes (drawing (now (a .0)) (a .1 .0) (now (a .1 .1 .0))) r (now (o .1 .1 .0))
 triangles-promised k a r o promise = promise
+
+pub strip-promised : (k : _) (a : _) (r : Stripped) (o : _) → strip.Learnt k a r o →
+    Strips (drawing (now (a .0)) (a .1 .0) (now (a .1 .1 .0))) r (now (o .1 .1 .0))
+strip-promised k a r o promise = promise
 
 pub plane-promised : (k : _) (a : _) (r : PlaneAnswer) (o : _) → plane.Learnt k a r o →
     r ≡ planeAt (asking (now (a .0)) (now (a .1 .0)) (a .1 .1 .0) (a .1 .1 .1 .0) (a .1 .1 .1 .1 .0))

@@ -1,4 +1,4 @@
--- How the answer of a height crosses to C: as kind and bits. The other three answers cross as they are, field by field. Document 01, "Height at
+-- How the answer of a height crosses to C: as kind and bits. The other answers cross as they are, field by field. Document 01, "Height at
 -- a point", and "Forms by place in the code". Definitions only.
 use mathlib.Core.Path.{_≡_}
 use mathlib.Core.Bool.{cond}

@@ -3,9 +3,11 @@ use aim::HeightAnswer;
 use aim::PlaneAnswer;
 use mesh::Meshed;
 use selection::Selected;
+use strip::Stripped;
 ghost use mathlib.Core.Path.{_≡_};
 ghost use Rattle.selection.specs.Selected.{Selects, handed as surveying};
 ghost use Rattle.mesh.specs.Meshed.{Meshes, handed as drawing};
+ghost use Rattle.strip.specs.Stripped.{Strips};
 ghost use Rattle.aim.specs.Aimed.{heightAt, planeAt, handed as asking};
 ghost use Rattle.head.specs.Crossing.{crossed};
 
@@ -40,6 +42,13 @@ pub extern "C" fn mosskirtle_triangles(marks: &[u8], m: u32, places: &mut [u16])
     ensures { λ r. ⌜ Meshes (drawing (now (marks .entry)) m (now (places .entry))) r (now (places .exit)) ⌝ }
 {
     mesh::triangles(marks, m, places)
+}
+
+#[no_mangle]
+pub extern "C" fn mosskirtle_strip(marks: &[u8], m: u32, places: &mut [u16]) -> Stripped
+    ensures { λ r. ⌜ Strips (drawing (now (marks .entry)) m (now (places .entry))) r (now (places .exit)) ⌝ }
+{
+    strip::strip(marks, m, places)
 }
 
 #[no_mangle]

@@ -28,7 +28,7 @@ fn midpoint_kept(marks: &[u8], l: usize, r: usize) -> bool
 }
 
 // Whether a triangle is cut: it has a cut left and its midpoint is kept.
-fn is_cut(marks: &[u8], left: u32, l: usize, r: usize) -> bool
+pub fn is_cut(marks: &[u8], left: u32, l: usize, r: usize) -> bool
     requires { ⌜ Ends (now marks) l r ⌝ }
     ensures { λ t. ⌜ t ≡ isCut (keptPlace (now (marks .entry))) left l r ⌝ }
 {

@@ -1,6 +1,6 @@
 // Triangles: the marks looked at, the uncut triangles written and counted.
 mod closed;
-mod cut;
+pub mod cut;
 pub mod good;
 mod number;
 

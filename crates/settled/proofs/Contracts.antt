@@ -9,6 +9,8 @@ use Rattle.selection.specs.declared.Selected.{Selected}
 use Rattle.selection.proofs.select.Reads as select
 use Rattle.mesh.specs.declared.Meshed.{Meshed}
 use Rattle.mesh.proofs.triangles.Reads as triangles
+use Rattle.strip.specs.declared.Stripped.{Stripped}
+use Rattle.strip.proofs.strip.Reads as strip
 use Rattle.aim.specs.declared.HeightAnswer.{HeightAnswer}
 use Rattle.aim.specs.declared.PlaneAnswer.{PlaneAnswer}
 use Rattle.aim.proofs.height.Reads as height
@@ -16,12 +18,13 @@ use Rattle.aim.proofs.plane.Reads as plane
 use Rattle.head.specs.declared.Crossed.{Crossed}
 use Rattle.head.proofs.mosskirtle_select.Reads as c-select
 use Rattle.head.proofs.mosskirtle_triangles.Reads as c-triangles
+use Rattle.head.proofs.mosskirtle_strip.Reads as c-strip
 use Rattle.head.proofs.mosskirtle_height.Reads as c-height
 use Rattle.head.proofs.mosskirtle_plane.Reads as c-plane
 use Rattle.frame.specs.declared.Frame.{Frame}
 use Rattle.frame.proofs.read.Reads as read
 use Rattle.frame.proofs.heights.Reads as heights
-use Rattle.settled.specs.Unique.{SameSelection, SameTriangles, SameSurvey}
+use Rattle.settled.specs.Unique.{SameSelection, SameTriangles, SameStrip, SameSurvey}
 use Rattle.settled.proofs.Unique.{no-second}
 
 pub select-once : (k : _) (a : _) (r r′ : Selected) (o o′ : _) → select.Learnt k a r o → select.Learnt k a r′ o′ →
@@ -31,6 +34,10 @@ select-once k a r r′ o o′ p q = no-second .select _ r r′ _ _ _ _ p q
 pub triangles-once : (k : _) (a : _) (r r′ : Meshed) (o o′ : _) → triangles.Learnt k a r o → triangles.Learnt k a r′ o′ →
     SameTriangles r r′ (now (o .1 .1 .0)) (now (o′ .1 .1 .0))
 triangles-once k a r r′ o o′ p q = no-second .triangles _ r r′ _ _ p q
+
+pub strip-once : (k : _) (a : _) (r r′ : Stripped) (o o′ : _) → strip.Learnt k a r o → strip.Learnt k a r′ o′ →
+    SameStrip r r′ (now (o .1 .1 .0)) (now (o′ .1 .1 .0))
+strip-once k a r r′ o o′ p q = no-second .strip _ r r′ _ _ p q
 
 pub height-once : (k : _) (a : _) (r r′ : HeightAnswer) (o o′ : _) → height.Learnt k a r o → height.Learnt k a r′ o′ → r ≡ r′
 height-once k a r r′ o o′ p q = no-second .height _ r r′ p q
@@ -56,6 +63,10 @@ c-select-once k a r r′ o o′ p q = no-second .select _ r r′ _ _ _ _ p q
 pub c-triangles-once : (k : _) (a : _) (r r′ : Meshed) (o o′ : _) → c-triangles.Learnt k a r o → c-triangles.Learnt k a r′ o′ →
     SameTriangles r r′ (now (o .1 .1 .0)) (now (o′ .1 .1 .0))
 c-triangles-once k a r r′ o o′ p q = no-second .triangles _ r r′ _ _ p q
+
+pub c-strip-once : (k : _) (a : _) (r r′ : Stripped) (o o′ : _) → c-strip.Learnt k a r o → c-strip.Learnt k a r′ o′ →
+    SameStrip r r′ (now (o .1 .1 .0)) (now (o′ .1 .1 .0))
+c-strip-once k a r r′ o o′ p q = no-second .strip _ r r′ _ _ p q
 
 pub c-height-once : (k : _) (a : _) (r r′ : Crossed) (o o′ : _) → c-height.Learnt k a r o → c-height.Learnt k a r′ o′ → r ≡ r′
 c-height-once k a r r′ o o′ p q = no-second .crossing _ r r′ p q

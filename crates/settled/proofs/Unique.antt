@@ -13,6 +13,7 @@ no-second = record {
     heightsAtExit = p .heights ∙ sym (q .heights);
   };
   triangles = λ h r r′ places places′ p q. record { answers = p .answer ∙ sym (q .answer); placesAtExit = p .places ∙ sym (q .places) };
+  strip = λ h r r′ places places′ p q. record { answers = p .answer ∙ sym (q .answer); placesAtExit = p .places ∙ sym (q .places) };
   read = λ input r r′ p q. p ∙ sym q;
   heights = λ h r r′ survey survey′ p q. record { answers = p .answer ∙ sym (q .answer); surveyAtExit = p .survey ∙ sym (q .survey) };
   height = λ h r r′ p q. said-only r r′ (p ∙ sym q);

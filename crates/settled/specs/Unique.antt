@@ -10,6 +10,8 @@ use Rattle.selection.specs.Selected.{Handed as Surveying, Selects}
 use Rattle.selection.specs.declared.Selected.{Selected}
 use Rattle.mesh.specs.Meshed.{Handed as Drawing, Meshes}
 use Rattle.mesh.specs.declared.Meshed.{Meshed}
+use Rattle.strip.specs.Stripped.{Strips}
+use Rattle.strip.specs.declared.Stripped.{Stripped}
 use Rattle.frame.specs.Frame.{answerOf, Handed as Reading, Surveys}
 use Rattle.frame.specs.declared.Frame.{Frame}
 use Rattle.aim.specs.Aimed.{Handed as Asking, said, heightAt, planeAt}
@@ -29,6 +31,11 @@ pub record SameTriangles (r r′ : Meshed) (places places′ : List ℕ) : Type 
   pub answers : r ≡ r′
   pub placesAtExit : places ≡ places′
 
+-- two outcomes of the strip are the same: the answer, the places at exit
+pub record SameStrip (r r′ : Stripped) (places places′ : List ℕ) : Type 0 where
+  pub answers : r ≡ r′
+  pub placesAtExit : places ≡ places′
+
 -- two outcomes of the frame's heights are the same: the refusal, the survey at exit
 pub record SameSurvey (r r′ : ℕ) (survey survey′ : List ℤ) : Type 0 where
   pub answers : r ≡ r′
@@ -41,6 +48,7 @@ pub record NoSecond : Type 0 where
       Selects h r marks heights → Selects h r′ marks′ heights′ → SameSelection r r′ marks marks′ heights heights′
   pub triangles : (h : Drawing) (r r′ : Meshed) (places places′ : List ℕ) →
       Meshes h r places → Meshes h r′ places′ → SameTriangles r r′ places places′
+  pub strip : (h : Drawing) (r r′ : Stripped) (places places′ : List ℕ) → Strips h r places → Strips h r′ places′ → SameStrip r r′ places places′
   pub read : (input : List ℕ) (r r′ : Frame) → r ≡ answerOf input → r′ ≡ answerOf input → r ≡ r′
   pub heights : (h : Reading) (r r′ : ℕ) (survey survey′ : List ℤ) → Surveys h r survey → Surveys h r′ survey′ → SameSurvey r r′ survey survey′
   pub height : (h : Asking) (r r′ : HeightAnswer) → said r ≡ heightAt h → said r′ ≡ heightAt h → r ≡ r′

@@ -1,0 +1,5 @@
+pub mod Strip
+pub mod Reading
+pub mod Stripped
+pub mod Rule
+pub mod Inner
