@@ -13,6 +13,7 @@ lent survey = {.name = "survey", .width = sizeof(int16_t)};
 lent marks = {.name = "marks", .width = sizeof(uint8_t)};
 lent heights = {.name = "heights", .width = sizeof(int16_t)};
 lent places = {.name = "places", .width = sizeof(uint16_t)};
+lent strip = {.name = "strip", .width = sizeof(uint16_t)};
 
 const char *under_way = "";
 uint64_t under_way_seed;
@@ -47,6 +48,7 @@ void make_buffers(void)
     make_buffer(&marks, MOST_SAMPLES);
     make_buffer(&heights, MOST_SAMPLES);
     make_buffer(&places, 3 * 2 * MOST_SAMPLES);
+    make_buffer(&strip, 2 * 2 * MOST_SAMPLES);
 }
 
 static void lay(uint8_t *copy, const void *content, size_t bytes)
@@ -98,12 +100,18 @@ const uint16_t *places_left(void)
     return library_part(&places);
 }
 
+const uint16_t *strip_left(void)
+{
+    return library_part(&strip);
+}
+
 _Noreturn void differs(const char *call, const char *what)
 {
     printf("differs: %s, %s\n", call, what);
     printf("in: %s, seed %" PRIu64 ", after %" PRIu64 " cases\n", under_way, under_way_seed, cases);
     printf("given: m %" PRIu32 ", tolerance %" PRIu32 ", x %" PRIu32 ", y %" PRIu32 "\n", given.m, given.tolerance, given.x, given.y);
-    printf("lent: survey %zu, marks %zu, heights %zu, places %zu\n", survey.len, marks.len, heights.len, places.len);
+    printf("lent: survey %zu, marks %zu, heights %zu, places %zu, strip %zu\n", survey.len, marks.len, heights.len, places.len,
+           strip.len);
     exit(1);
 }
 
@@ -159,6 +167,18 @@ mosskirtle_mesh compare_triangles(uint32_t m)
     same_answer("triangles", &answer, &expected, sizeof answer);
     same_buffer("triangles", &marks);
     same_buffer("triangles", &places);
+    cases++;
+    return answer;
+}
+
+mosskirtle_strip_answer compare_strip(uint32_t m)
+{
+    given.m = m;
+    mosskirtle_strip_answer answer = mosskirtle_strip(library_part(&marks), marks.len, m, library_part(&strip), strip.len);
+    mosskirtle_strip_answer expected = reference_strip(reference_part(&marks), marks.len, m, reference_part(&strip), strip.len);
+    same_answer("strip", &answer, &expected, sizeof answer);
+    same_buffer("strip", &marks);
+    same_buffer("strip", &strip);
     cases++;
     return answer;
 }

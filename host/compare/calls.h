@@ -14,7 +14,7 @@ enum { LARGEST_SIDE = (1 << LARGEST_SIZE) + 1, MOST_SAMPLES = LARGEST_SIDE * LAR
 /* A buffer in two copies of `len` entries. */
 typedef struct { const char *name; size_t width, len; uint8_t *library, *reference; } lent;
 
-extern lent survey, marks, heights, places;
+extern lent survey, marks, heights, places, strip;
 
 /* What is compared now, for the description of a difference. */
 extern const char *under_way;
@@ -39,10 +39,12 @@ void set_height(size_t place, int16_t height);
 const uint8_t *marks_left(void);
 const int16_t *heights_left(void);
 const uint16_t *places_left(void);
+const uint16_t *strip_left(void);
 
 /* Each compares one call on what is lent; a difference ends the program. */
 mosskirtle_selection compare_select(uint32_t m, uint32_t tolerance);
 mosskirtle_mesh compare_triangles(uint32_t m);
+mosskirtle_strip_answer compare_strip(uint32_t m);
 mosskirtle_height_answer compare_height(uint32_t m, uint32_t x, uint32_t y);
 void compare_plane(uint32_t m, uint32_t x, uint32_t y);
 

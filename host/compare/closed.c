@@ -15,6 +15,8 @@ static void compare_changed(uint32_t m, size_t place, uint8_t mark)
     set_mark(place, mark);
     if (compare_triangles(m).refusal == MOSSKIRTLE_ACCEPTED)
         lend(&places, NULL, places.len);
+    if (compare_strip(m).refusal == MOSSKIRTLE_ACCEPTED)
+        lend(&strip, NULL, strip.len);
     compare_near(m, place);
     set_mark(place, before);
 }

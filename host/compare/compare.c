@@ -6,6 +6,7 @@
 #include <string.h>
 
 #include "closed.h"
+#include "decoder.h"
 #include "probes.h"
 #include "surface.h"
 #include "surveys.h"
@@ -81,7 +82,9 @@ static void compare_marks_lengths(uint32_t m, size_t marks_len)
         lend_marks(m, marks_len, bad);
         for (size_t room = 0; room < 9; room++) {
             lend(&places, NULL, room);
+            lend(&strip, NULL, room);
             compare_triangles(m);
+            compare_strip(m);
         }
         for (size_t j = 0; j < of.count; j++) {
             lend(&heights, NULL, of.at[j]);
@@ -99,11 +102,14 @@ static void compare_cut_lengths(uint32_t m)
     compare_select_lengths(m, right, right, longer);
     lend_marks(m, right, false);
     lend(&places, NULL, CUT_OFF);
+    lend(&strip, NULL, CUT_OFF);
     compare_triangles(m);
+    compare_strip(m);
     lend(&heights, NULL, longer);
     compare_square(m);
     lend_marks(m, longer, false);
     compare_triangles(m);
+    compare_strip(m);
     lend(&heights, NULL, right);
     compare_square(m);
 }
@@ -231,7 +237,7 @@ static void compare_each_mark_of_size_1(void)
     }
 }
 
-/* Every set of kept points: closed ones are cut, the others refused. */
+/* Every set of kept points: closed ones are cut and made a strip, the others refused. */
 static void compare_all_sets_of_size_2(void)
 {
     enum { SETS = 1 << (5 * 5 - 4), MOST_TRIANGLES = 2 * 4 * 4 };
@@ -240,8 +246,14 @@ static void compare_all_sets_of_size_2(void)
     lend(&places, NULL, 3 * MOST_TRIANGLES);
     for (uint32_t number = 0; number < SETS; number++) {
         lend_marks_of_number(2, number, COUNT(kept_or_not), kept_or_not);
-        if (compare_triangles(2).refusal == MOSSKIRTLE_ACCEPTED)
-            lend(&places, NULL, places.len);
+        mosskirtle_mesh mesh = compare_triangles(2);
+        if (mesh.refusal != MOSSKIRTLE_ACCEPTED) {
+            compare_strip(2);
+            continue;
+        }
+        compare_strip_rooms(2, mesh);
+        lend(&places, NULL, places.len);
+        lend(&strip, NULL, strip.len);
     }
 }
 
@@ -365,6 +377,6 @@ int main(int argc, char **argv)
     compare_void_corners();
     compare_marks();
     compare_surveys(strtoull(argv[1], NULL, 10));
-    printf("%" PRIu64 " cases passed, %" PRIu64 " surfaces whole\n", cases, surfaces);
+    printf("%" PRIu64 " cases passed, %" PRIu64 " surfaces whole, %" PRIu64 " strips read back\n", cases, surfaces, strips);
     return 0;
 }

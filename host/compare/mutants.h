@@ -1,4 +1,5 @@
-/* Mutants: one wrong expression each, of the reference or of the brute force over surfaces; the comparison must catch every one. */
+/* Mutants: one wrong expression each, of the reference, of the brute force over surfaces or of the reading of strips; the comparison must
+ * catch every one. */
 #ifndef MUTANTS_H
 #define MUTANTS_H
 
@@ -19,6 +20,13 @@ enum {
     CLOSED_BEFORE_GOOD,
     FULL_ROOM_REFUSED,
     NEED_NOT_GIVEN,
+    FIRST_STARTS_ELSEWHERE,
+    NEWER_PLACE_REPEATED,
+    ALWAYS_TURNED,
+    LAST_TRIANGLE_TURNED,
+    FULL_STRIP_REFUSED,
+    STRIP_NEED_NOT_GIVEN,
+    PLACE_PAST_STRIP_WRITTEN,
     CUTTING_LINE_TO_SECOND,
     DIAGONAL_TO_SECOND,
     LAST_POINT_REFUSED,
@@ -32,7 +40,8 @@ enum {
     LAST_TRIANGLE_NOT_ADDED,
     WEIGHTS_OF_THE_NEXT_CORNER,
     TOUCHED_CORNER_FILLS,
-    SLOPE_TAKEN_FOR_HEIGHT
+    SLOPE_TAKEN_FOR_HEIGHT,
+    READ_WITHOUT_TURNING
 };
 
 #ifndef MUTANT

@@ -1,8 +1,9 @@
-/* Probes of the marks and heights that are lent: rooms for the list, points for the queries, damage. */
+/* Probes of the marks and heights that are lent: rooms for the list and the strip, points for the queries, damage. */
 #include "probes.h"
 
 #include <string.h>
 
+#include "decoder.h"
 #include "surveys.h"
 
 const uint8_t good_marks[GOOD_MARKS] = {LEFT_OUT, OWN, DEPENDENT, WAS_VOID, DEPENDENT + WAS_VOID};
@@ -26,16 +27,43 @@ void lend_random_heights(uint32_t m)
         set_height(i, (int16_t)((int)random_below(2 * LARGEST_HEIGHT + 1) - LARGEST_HEIGHT));
 }
 
-mosskirtle_mesh compare_rooms(uint32_t m)
+enum { ROOMS = 4 };
+
+/* The last room is the need alone. */
+static size_t room_of(size_t need, int which)
+{
+    return (size_t[ROOMS]){need - (need > 0), need + 1, need + 7, need}[which];
+}
+
+static mosskirtle_mesh compare_list_rooms(uint32_t m)
 {
     lend(&places, NULL, 0);
     mosskirtle_mesh answer = compare_triangles(m);
-    size_t entries = 3 * (size_t)answer.triangles, rooms[] = {entries - (entries > 0), entries + 1, entries + 7, entries};
-    for (size_t i = 0; i < COUNT(rooms); i++) {
-        lend(&places, NULL, rooms[i]);
+    size_t entries = 3 * (size_t)answer.triangles;
+    for (int i = 0; i < ROOMS; i++) {
+        lend(&places, NULL, room_of(entries, i));
         answer = compare_triangles(m);
     }
     return answer;
+}
+
+void compare_strip_rooms(uint32_t m, mosskirtle_mesh mesh)
+{
+    lend(&strip, NULL, 0);
+    mosskirtle_strip_answer answer = compare_strip(m);
+    size_t need = answer.places;
+    for (int i = 0; i < ROOMS; i++) {
+        lend(&strip, NULL, room_of(need, i));
+        answer = compare_strip(m);
+    }
+    read_back(mesh, answer);
+}
+
+mosskirtle_mesh compare_rooms(uint32_t m)
+{
+    mosskirtle_mesh mesh = compare_list_rooms(m);
+    compare_strip_rooms(m, mesh);
+    return mesh;
 }
 
 static void compare_queries(uint32_t m, uint32_t x, uint32_t y)
@@ -95,7 +123,9 @@ static void damage_mark(uint32_t m)
     else
         set_mark(place, good_marks[random_below(GOOD_MARKS)]);
     lend(&places, NULL, places.len);
+    lend(&strip, NULL, strip.len);
     compare_triangles(m);
+    compare_strip(m);
     compare_near(m, place);
 }
 

@@ -1,4 +1,4 @@
-/* Probes of the marks and heights that are lent: rooms for the list, points for the queries, damage. */
+/* Probes of the marks and heights that are lent: rooms for the list and the strip, points for the queries, damage. */
 #ifndef PROBES_H
 #define PROBES_H
 
@@ -15,8 +15,12 @@ void set_bare_marks(uint32_t m);
 void lend_bare_marks(uint32_t m);
 void lend_random_heights(uint32_t m);
 
-/* Rooms from too small to more than enough; the last, that of the answer, leaves a whole list and no more in the places. */
+/* Rooms for the list and the strip, from too small to more than enough; the last, that of the answer, leaves a whole list and no more
+ * in the places. */
 mosskirtle_mesh compare_rooms(uint32_t m);
+
+/* Rooms for the strip alone; it is read back against the list that the library left in the places, answered with that mesh. */
+void compare_strip_rooms(uint32_t m, mosskirtle_mesh mesh);
 
 /* Both queries: on and beyond every border of a square of that many quarter cells; at every point; at random; at and about a sample. */
 void compare_borders(uint32_t m, uint32_t last);

@@ -2,6 +2,7 @@
 #include "reference.h"
 
 #include <stdbool.h>
+#include <stdio.h>
 #include <stdlib.h>
 #include <string.h>
 
@@ -313,21 +314,104 @@ static uint32_t marks_refusal(const uint8_t *marks, size_t marks_len, uint32_t m
     return is_closed(marks, n) ? MOSSKIRTLE_ACCEPTED : MOSSKIRTLE_NOT_CLOSED;
 }
 
-mosskirtle_mesh reference_triangles(const uint8_t *marks, size_t marks_len, uint32_t m, uint16_t *places, size_t places_len)
+/* The whole list of accepted marks, until the next one is made. */
+static const listing *whole_list(const uint8_t *marks, int n)
 {
     static listing list;
-    uint32_t refusal = marks_refusal(marks, marks_len, m);
-    if (refusal != MOSSKIRTLE_ACCEPTED)
-        return (mosskirtle_mesh){refusal, 0};
-    int n = 1 << m;
     list.triangles = 0;
     list_triangles(&list, marks, n, first_start(n), 0);
     list_triangles(&list, marks, n, second_start(n), 0);
-    size_t entries = 3 * (size_t)list.triangles;
+    return &list;
+}
+
+mosskirtle_mesh reference_triangles(const uint8_t *marks, size_t marks_len, uint32_t m, uint16_t *places, size_t places_len)
+{
+    uint32_t refusal = marks_refusal(marks, marks_len, m);
+    if (refusal != MOSSKIRTLE_ACCEPTED)
+        return (mosskirtle_mesh){refusal, 0};
+    const listing *list = whole_list(marks, 1 << m);
+    size_t entries = 3 * (size_t)list->triangles;
     if (places_len < entries + MUTATED(FULL_ROOM_REFUSED, 0, 1))
-        return (mosskirtle_mesh){MOSSKIRTLE_NO_ROOM, MUTATED(NEED_NOT_GIVEN, list.triangles, 0)};
-    memcpy(places, list.places, (entries + MUTATED(ENTRY_PAST_LAST_WRITTEN, 0, 1)) * sizeof *places);
-    return (mosskirtle_mesh){MOSSKIRTLE_ACCEPTED, list.triangles};
+        return (mosskirtle_mesh){MOSSKIRTLE_NO_ROOM, MUTATED(NEED_NOT_GIVEN, list->triangles, 0)};
+    memcpy(places, list->places, (entries + MUTATED(ENTRY_PAST_LAST_WRITTEN, 0, 1)) * sizeof *places);
+    return (mosskirtle_mesh){MOSSKIRTLE_ACCEPTED, list->triangles};
+}
+
+/* The strip */
+
+static const uint16_t *corners_of(const listing *list, uint32_t number)
+{
+    return &list->places[3 * number];
+}
+
+static bool has_corner(const uint16_t *corners, uint16_t place)
+{
+    return corners[0] == place || corners[1] == place || corners[2] == place;
+}
+
+/* Which corner of a triangle its neighbour has not. They share a whole side exactly where that is one; without it there is no strip. */
+static int corner_apart(const listing *list, uint32_t number, uint32_t neighbour)
+{
+    const uint16_t *corners = corners_of(list, number), *others = corners_of(list, neighbour);
+    int apart = 0, count = 0;
+    for (int i = 0; i < 3; i++) {
+        if (!has_corner(others, corners[i])) {
+            apart = i;
+            count++;
+        }
+    }
+    if (count != 1) {
+        fprintf(stderr, "triangles %u and %u of %u share no whole side\n", number, neighbour, list->triangles);
+        abort();
+    }
+    return apart;
+}
+
+/* A place more than the most: mutants write and read it. */
+typedef struct { size_t len; uint16_t places[2 * MOST_TRIANGLES + 1]; } strip;
+
+static void add_place(strip *so_far, uint16_t place)
+{
+    so_far->places[so_far->len++] = place;
+}
+
+/* The corner off its way out comes first, so that its way out is its last two places. */
+static void add_first(strip *so_far, const listing *list)
+{
+    int start = corner_apart(list, 0, 1) + MUTATED(FIRST_STARTS_ELSEWHERE, 0, 1);
+    for (int i = 0; i < 3; i++)
+        add_place(so_far, corners_of(list, 0)[(start + i) % 3]);
+}
+
+/* A triangle after the first: its way in is the running pair, which is turned where the newer place is not on its way out. */
+static void add_triangle(strip *so_far, const listing *list, uint32_t number)
+{
+    const uint16_t *corners = corners_of(list, number);
+    uint16_t older = so_far->places[so_far->len - 2], newer = so_far->places[so_far->len - 1];
+    uint32_t next = (number + 1) % list->triangles;
+    bool off_way_out = corners[corner_apart(list, number, next)] == newer;
+    bool may_turn = MUTATED(LAST_TRIANGLE_TURNED, next != 0, true);
+    if (may_turn && MUTATED(ALWAYS_TURNED, off_way_out, true))
+        add_place(so_far, MUTATED(NEWER_PLACE_REPEATED, older, newer));
+    add_place(so_far, corners[corner_apart(list, number, number - 1)]);
+}
+
+mosskirtle_strip_answer reference_strip(const uint8_t *marks, size_t marks_len, uint32_t m, uint16_t *places, size_t places_len)
+{
+    static strip whole;
+    uint32_t refusal = marks_refusal(marks, marks_len, m);
+    if (refusal != MOSSKIRTLE_ACCEPTED)
+        return (mosskirtle_strip_answer){refusal, 0};
+    const listing *list = whole_list(marks, 1 << m);
+    whole.len = 0;
+    add_first(&whole, list);
+    for (uint32_t number = 1; number < list->triangles; number++)
+        add_triangle(&whole, list, number);
+    uint32_t need = (uint32_t)whole.len;
+    if (places_len < need + MUTATED(FULL_STRIP_REFUSED, 0u, 1u))
+        return (mosskirtle_strip_answer){MOSSKIRTLE_NO_ROOM, MUTATED(STRIP_NEED_NOT_GIVEN, need, 0)};
+    memcpy(places, whole.places, (need + MUTATED(PLACE_PAST_STRIP_WRITTEN, 0u, 1u)) * sizeof *places);
+    return (mosskirtle_strip_answer){MOSSKIRTLE_ACCEPTED, need};
 }
 
 /* Height and plane */

@@ -12,6 +12,7 @@ enum { LEFT_OUT = 0, OWN = 1, DEPENDENT = 2, CORNER = 3, WAS_VOID = 4 };
 mosskirtle_selection reference_select(const int16_t *survey, size_t survey_len, uint32_t m, uint32_t tolerance,
                                       uint8_t *marks, size_t marks_len, int16_t *heights, size_t heights_len);
 mosskirtle_mesh reference_triangles(const uint8_t *marks, size_t marks_len, uint32_t m, uint16_t *places, size_t places_len);
+mosskirtle_strip_answer reference_strip(const uint8_t *marks, size_t marks_len, uint32_t m, uint16_t *places, size_t places_len);
 mosskirtle_height_answer reference_height(const uint8_t *marks, size_t marks_len, const int16_t *heights, size_t heights_len,
                                           uint32_t m, uint32_t x, uint32_t y);
 mosskirtle_plane_answer reference_plane(const uint8_t *marks, size_t marks_len, const int16_t *heights, size_t heights_len,

@@ -25,7 +25,7 @@ static const char *const meanings[] = {
     [MOSSKIRTLE_POINT_BEYOND] = "the point lies beyond the grid",
     [MOSSKIRTLE_BAD_MARK] = "a mark is not good",
     [MOSSKIRTLE_NOT_CLOSED] = "a point is kept without all that it depends on",
-    [MOSSKIRTLE_NO_ROOM] = "there is no room for the triangles",
+    [MOSSKIRTLE_NO_ROOM] = "there is no room for all places",
 };
 
 static void fail(const char *form, ...)
@@ -95,6 +95,8 @@ static void thin(ground *g)
     unless_accepted("selection", g->selection.refusal);
     g->mesh = mosskirtle_triangles(g->marks, g->samples, g->m, g->places, sizeof g->places / sizeof *g->places);
     unless_accepted("triangles", g->mesh.refusal);
+    g->strip = mosskirtle_strip(g->marks, g->samples, g->m, g->strip_places, sizeof g->strip_places / sizeof *g->strip_places);
+    unless_accepted("strip", g->strip.refusal);
 }
 
 static bool is_filled(const ground *g, uint16_t place)
@@ -128,7 +130,9 @@ static void show_counts(const ground *g)
     show_count("  of these filled", g->filled_corners);
     show_count("triangles", g->mesh.triangles);
     show_count("  with a filled corner", g->filled_triangles);
-    printf("The triangles are %.1f %% of the full grid's %s.\n\n", 100.0 * g->mesh.triangles / most, counted(most, text));
+    show_count("places of the strip", g->strip.places);
+    printf("The triangles are %.1f %% of the full grid's %s. One strip for them all takes %.2f places a triangle, the plain list 3.\n\n",
+           100.0 * g->mesh.triangles / most, counted(most, text), (double)g->strip.places / g->mesh.triangles);
 }
 
 static void show_height(const ground *g, point at, const char *remark)
@@ -192,12 +196,12 @@ static void show_answers(const ground *g)
     show_plane(g, north);
 }
 
-static void draw_into(const ground *g, const char *path)
+static void draw_into(const ground *g, bool with_strip, const char *path)
 {
     FILE *out = fopen(path, "w");
     if (out == NULL)
         fail("cannot write %s: %s", path, strerror(errno));
-    draw(g, out);
+    draw(g, with_strip, out);
     if (ferror(out) || fclose(out) != 0)
         fail("cannot write %s: %s", path, strerror(errno));
     printf("\nPicture: %s\n", path);
@@ -205,19 +209,19 @@ static void draw_into(const ground *g, const char *path)
 
 int main(int count, char **given)
 {
-    if (count < 6)
-        fail("usage: demo FILE M TOLERANCE PICTURE whole|punched [LINE ABOUT THE SOURCE]...");
+    if (count < 7)
+        fail("usage: demo FILE M TOLERANCE PICTURE mesh|strip whole|punched [LINE ABOUT THE SOURCE]...");
     land.m = number("M", given[2]);
     land.tolerance = number("TOLERANCE", given[3]);
-    land.source = given + 6;
+    land.source = given + 7;
     read_survey(&land, given[1]);
     printf("Survey %s, size %u, tolerance %u\n\n", given[1], land.m, land.tolerance);
-    if (strcmp(given[5], "punched") == 0)
+    if (strcmp(given[6], "punched") == 0)
         punch(&land);
     thin(&land);
     find_filled(&land);
     show_counts(&land);
     show_answers(&land);
-    draw_into(&land, given[4]);
+    draw_into(&land, strcmp(given[5], "strip") == 0, given[4]);
     return 0;
 }

@@ -19,8 +19,10 @@ typedef struct {
     int16_t survey[ROOM], heights[ROOM];
     uint8_t marks[ROOM];
     uint16_t places[3 * MOST_TRIANGLES], filled[MOST_TRIANGLES]; /* filled: the triangles with a filled corner */
+    uint16_t strip_places[2 * MOST_TRIANGLES];
     mosskirtle_selection selection;
     mosskirtle_mesh mesh;
+    mosskirtle_strip_answer strip;
 } ground;
 
 /* A point: in quarter cells where a height is asked for, in cells where it is a corner. */

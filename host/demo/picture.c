@@ -1,5 +1,6 @@
 /* Draws a mesh as SVG. Each triangle is asked of the library at a point inside it: the plane there gives its shade and tint, and the kind
- * of the height whether it is drawn as surveyed or as filled. Paths are in cells, turned north up by one transform. */
+ * of the height whether it is drawn as surveyed or as filled. Paths are in cells, turned north up by one transform. The strip's path is
+ * read from the strip itself, by the usual rule. */
 #include "picture.h"
 
 enum {
@@ -176,7 +177,55 @@ static void draw_dots(const ground *g, const char *colour_name, double size, FIL
     fputs("\"/>\n", out);
 }
 
-static void draw_map(const ground *g, FILE *out)
+/* The middle of the triangle that the strip's places from there on give, in thirds of a cell; none where one of the three is repeated. */
+static bool strip_middle(const ground *g, uint32_t from, point *middle)
+{
+    const uint16_t *row = g->strip_places + from;
+    point a = corner(g, row[0]), b = corner(g, row[1]), c = corner(g, row[2]);
+    *middle = (point){a.x + b.x + c.x, a.y + b.y + c.y};
+    return row[0] != row[1] && row[1] != row[2] && row[0] != row[2];
+}
+
+/* A curve in sixths of a cell that heads for each middle in turn, and runs through the points halfway between them. */
+static void draw_strip_path(const ground *g, const char *colour_name, double size, FILE *out)
+{
+    point before, now, next;
+    strip_middle(g, 0, &now);
+    before = now;
+    fprintf(out, "<path fill=\"none\" stroke=\"%s\" stroke-width=\"%.2g\" stroke-linecap=\"round\" d=\"M%u %uq0 0", colour_name, size,
+            2 * now.x, 2 * now.y);
+    for (uint32_t from = 1; from + 2 < g->strip.places; from++) {
+        if (!strip_middle(g, from, &next))
+            continue;
+        fprintf(out, " %d %dt", (int)(next.x - before.x), (int)(next.y - before.y));
+        before = now;
+        now = next;
+    }
+    fprintf(out, " %d %d\"/>\n", (int)(now.x - before.x), (int)(now.y - before.y));
+}
+
+/* A ring where the strip starts, a dot where it ends. */
+static void draw_strip_mark(double x, double y, double pixel, bool start, FILE *out)
+{
+    fprintf(out, "<circle cx=\"%g\" cy=\"%g\" r=\"%.3g\" fill=\"%s\" stroke=\"%s\" stroke-width=\"%.2g\"/>\n", x, y,
+            (start ? 4.5 : 6) * pixel, start ? paper : ink, start ? ink : paper, 2 * pixel);
+}
+
+static void draw_strip(const ground *g, double pixel, FILE *out)
+{
+    point first, last;
+    double sixth = 6 * pixel;
+    strip_middle(g, 0, &first);
+    strip_middle(g, g->strip.places - 3, &last);
+    fputs("<g transform=\"scale(.16666667)\">\n", out);
+    draw_strip_path(g, paper, 3 * sixth, out);
+    draw_strip_path(g, ink, 1.4 * sixth, out);
+    draw_strip_mark(2 * first.x, 2 * first.y, sixth, true, out);
+    draw_strip_mark(2 * last.x, 2 * last.y, sixth, false, out);
+    fputs("</g>\n", out);
+}
+
+static void draw_map(const ground *g, bool with_strip, FILE *out)
 {
     double scale = (double)MAP_SIDE / cells(g), pixel = 1 / scale;
     fprintf(out, "<g transform=\"translate(%d %d) scale(%g -%g)\">\n", MARGIN, MARGIN + MAP_SIDE, scale, scale);
@@ -185,6 +234,8 @@ static void draw_map(const ground *g, FILE *out)
     draw_holes(g, pixel, out);
     draw_dots(g, "#fff", 7 * pixel, out);
     draw_dots(g, dot_colour, 4.8 * pixel, out);
+    if (with_strip)
+        draw_strip(g, pixel, out);
     fputs("</g>\n", out);
     fprintf(out, "<rect x=\"%d\" y=\"%d\" width=\"%d\" height=\"%d\" fill=\"none\" stroke=\"%s\" stroke-width=\"1.5\"/>\n",
             MARGIN, MARGIN, MAP_SIDE, MAP_SIDE, ink);
@@ -222,7 +273,7 @@ static void write_counts(const ground *g, int y, FILE *out)
     write_row(y += ROW, line, part, out);
 }
 
-/* A strip of triangles in tones of surveyed or of filled ground. */
+/* A row of triangles in tones of surveyed or of filled ground. */
 static void draw_swatch(int y, int kind, FILE *out)
 {
     enum { SHOWN = 4, HALF = 14, TALL = 24 };
@@ -261,6 +312,18 @@ static void write_legend(const ground *g, int y, FILE *out)
     write_text(ENTRY, y + 6, "", line, out);
 }
 
+static void write_strip_entry(const ground *g, int y, FILE *out)
+{
+    char text[8], line[64];
+    fprintf(out, "<path fill=\"none\" stroke=\"%s\" stroke-width=\"1.4\" d=\"M%d %dq12-26 24 0t24 0\"/>\n", ink, SYMBOL - 24, y);
+    draw_strip_mark(SYMBOL - 24, y, 1, true, out);
+    draw_strip_mark(SYMBOL + 24, y, 1, false, out);
+    snprintf(line, sizeof line, "Strip: %s places", counted(g->strip.places, text));
+    write_text(ENTRY, y - 4, "", line, out);
+    snprintf(line, sizeof line, "%.2f a triangle, ring to dot", (double)g->strip.places / g->mesh.triangles);
+    write_text(ENTRY, y + 14, small, line, out);
+}
+
 static void draw_compass(int y, FILE *out)
 {
     fprintf(out, "<path d=\"M%d %dl9 34-9-7-9 7z\"/>\n", SYMBOL, y - 14);
@@ -284,13 +347,13 @@ static void write_source(const ground *g, FILE *out)
     }
 }
 
-void draw(const ground *g, FILE *out)
+void draw(const ground *g, bool with_strip, FILE *out)
 {
     fprintf(out, "<svg xmlns=\"http://www.w3.org/2000/svg\" viewBox=\"0 0 %d %d\" fill=\"%s\" "
                  "font-family=\"Helvetica, Arial, sans-serif\" font-size=\"18\">\n", WIDTH, HEIGHT, ink);
     fputs("<title>A height mesh by Mosskirtle, seen from above</title>\n", out);
     fprintf(out, "<rect width=\"%d\" height=\"%d\" rx=\"14\" fill=\"%s\"/>\n", WIDTH, HEIGHT, paper);
-    draw_map(g, out);
+    draw_map(g, with_strip, out);
     write_text(PANEL, 72, " font-size=\"44\" font-weight=\"700\"", "Mosskirtle", out);
     write_text(PANEL, 106, "", "A proved height mesh,", out);
     write_text(PANEL, 130, "", "where filled ground is called filled", out);
@@ -298,8 +361,13 @@ void draw(const ground *g, FILE *out)
     write_counts(g, 192, out);
     write_rule(350, out);
     write_legend(g, 396, out);
-    write_rule(584, out);
-    draw_compass(646, out);
+    int y = 584;
+    if (with_strip) {
+        write_strip_entry(g, y, out);
+        y += 48;
+    }
+    write_rule(y, out);
+    draw_compass(y + 62, out);
     write_source(g, out);
     fputs("</svg>\n", out);
 }
