@@ -5,10 +5,11 @@ use mathlib.Core.Bool.{Bool, true, false, true≢false}
 use mathlib.Core.List.{List, [], _∷_, _++_}
 use Prim.Native.Nat.{ℕ, zero, suc, _+_, _-_, _%_, _≤_, _<_}
 use native.Mathlib.Omega.{arith}
-use lib.ListN.{length, length-append, getD, set}
-use lib.Seq.{sets, length-sets}
+use lib.ListN.{length, length-append, getD, set, drop}
+use lib.Seq.{length-sets, sets, sets-eq}
 use Rattle.grid.specs.Grid.{midplace}
 use Rattle.grid.proofs.Parity.{even-false, odd-true}
+use Rattle.mesh.specs.Meshed.{writtenOver}
 use Rattle.mesh.specs.Inner.{keptPlace, inOrder, isCut, cutPlaces, Corners, Put}
 
 sets-append : (xs ys buffer : List ℕ) (at : ℕ) → sets buffer at (xs ++ ys) ≡ sets (sets buffer at xs) (at + length xs) ys
@@ -25,6 +26,12 @@ put-both {xs} {ys} {buffer} {at = at} p q =
       behind = omega (arith, p .behind, q .behind, length-append xs ys);
       holds = q .holds ∙ (λ i. sets (p .holds i) (p .behind i) ys) ∙ sym (sets-append xs ys buffer at);
     }
+
+-- from the beginning of a buffer that has room for it
+pub put-over : {xs buffer after : List ℕ} {next : ℕ} → Put xs 0 buffer next after → length xs ≤ length buffer → after ≡ writtenOver xs buffer
+put-over {xs} {buffer} p room =
+    let from : 0 + length xs ≡ length xs = omega arith in
+    p .holds ∙ sets-eq xs buffer 0 (omega arith) ∙ ap (λ (n : ℕ). xs ++ drop n buffer) from
 
 -- writing leaves the buffer as long as it was
 pub put-long : {xs buffer after : List ℕ} {at next : ℕ} → Put xs at buffer next after → length after ≡ length buffer

@@ -7,8 +7,7 @@ use Prim.Native.Nat.{ℕ, zero, suc, _+_, _*_, _%_, _≤_, _<_}
 use native.Mathlib.Decide.{ℕ-discrete}
 use native.Mathlib.Nat.{zero-mul}
 use native.Mathlib.Omega.{arith}
-use lib.ListN.{length, length-append, drop}
-use lib.Seq.{sets-eq}
+use lib.ListN.{length, length-append}
 use Rattle.grid.specs.Grid.{side, samples, largest, at, place, midpoint}
 use Rattle.grid.specs.Hierarchy.{Triangle, first, second, firstHalf, secondHalf}
 use Rattle.grid.specs.declared.points.Point.{Point}
@@ -21,7 +20,7 @@ use Rattle.mesh.specs.Closed.{keptBy}
 use Rattle.mesh.specs.Meshed.{writtenOver}
 use Rattle.mesh.specs.Inner.{Plain, keptPlace, inOrder, cutPlaces, Corners, Put}
 use Rattle.mesh.proofs.Numbered.{number-triangles}
-use Rattle.mesh.proofs.Halves.{put-both}
+use Rattle.mesh.proofs.Halves.{put-both, put-over}
 
 module _ (m : ℕ) where
   places-append : (ts us : List Three) → placesOf m (ts ++ us) ≡ placesOf m ts ++ placesOf m us
@@ -113,10 +112,4 @@ module _ (m : ℕ) where
       pub both-written : {buffer between after : List ℕ} {next last : ℕ} → 3 * number m (keptBy m marks) ≤ length buffer →
           Put firsts 0 buffer next between → Put seconds next between last after →
           after ≡ writtenOver (placesOf m (mesh m (keptBy m marks))) buffer
-      both-written {buffer} room p q =
-          let both = firsts ++ seconds in
-          let from : 0 + length both ≡ length both = omega arith in
-          rw mesh-places
-          (put-both p q .holds
-          ∙ sets-eq both buffer 0 (omega (arith, long, length-append firsts seconds))
-          ∙ ap (λ (n : ℕ). both ++ drop n buffer) from)
+      both-written room p q = rw mesh-places (put-over (put-both p q) (omega (arith, long, length-append firsts seconds)))

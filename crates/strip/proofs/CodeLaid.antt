@@ -1,12 +1,11 @@
 -- Places laid one behind the other.
-use mathlib.Core.Path.{_≡_, refl, ap, _∙_}
+use mathlib.Core.Path.{_≡_, refl, _∙_}
 use mathlib.Core.List.{List, [], _∷_, _++_}
 use Prim.Native.Nat.{ℕ, _+_, _≤_, _<_}
 use native.Mathlib.Omega.{arith}
-use lib.ListN.{length, length-append, set, length-set, drop}
-use lib.Seq.{sets-eq}
+use lib.ListN.{length, length-append, set, length-set}
 use Rattle.mesh.specs.Meshed.{writtenOver}
-use Rattle.mesh.proofs.Halves.{put-both}
+use Rattle.mesh.proofs.Halves.{put-both, put-over}
 use Rattle.strip.specs.Inner.{Laid}
 
 -- one place, where there is room for it, and where there is none
@@ -31,6 +30,4 @@ laid-both {xs} {ys} p q =
 -- all of it, from the buffer's beginning
 pub laid-over : {list buffer after : List ℕ} {next : ℕ} → Laid list 0 buffer next after → length list ≤ length buffer →
     after ≡ writtenOver list buffer
-laid-over {list} {buffer} p enough =
-    let from : 0 + length list ≡ length list = omega arith in
-    p .holds (omega arith) .holds ∙ sets-eq list buffer 0 (omega arith) ∙ ap (λ (n : ℕ). list ++ drop n buffer) from
+laid-over p enough = put-over (p .holds (omega arith)) enough
