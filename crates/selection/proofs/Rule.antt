@@ -20,14 +20,15 @@ use Rattle.grid.proofs.Places.{place-point, point-inside}
 use Rattle.grid.proofs.Spaced.{corner-inside}
 use Rattle.survey.specs.Filled.{filled}
 use Rattle.survey.proofs.Rule.{filled-fills, fills-only}
-use Rattle.selection.specs.Error.{exceeding, over}
+use Rattle.selection.specs.Error.{over}
 use Rattle.selection.specs.Kept.{kept}
 use Rattle.selection.specs.Marks.{markBy, mark, marksOf, markAt, count, markedOwn, markedDependence}
 use Rattle.selection.specs.Selected.{Handed, refusal, marksBy, Selects}
-use Rattle.selection.specs.Rule.{Least, Turned, Untouched, Selection, Told}
+use Rattle.selection.specs.Rule.{Least, Turned, Untouched, Selection, OffItsEnds, Told}
 use Rattle.selection.specs.declared.Selected.{Selected}
 use Rattle.selection.proofs.Least.{kept-least, least-only}
 use Rattle.selection.proofs.Marked.{kept-mark, good-mark, mark-own, mark-dependent, void-mark, own-surveyed, corners-within}
+use Rattle.selection.proofs.Within.{exceeding-filled}
 use Rattle.selection.proofs.Accepted.{turned, turned-only, accepted-handed}
 use Rattle.selection.proofs.Counted.{marks-long, count-voids}
 use Rattle.selection.proofs.Answered.{taken, refused, answer-taken, marks-taken, heights-taken}
@@ -82,12 +83,20 @@ module _ (h : Handed) where
           voidCount = refl;
         }
 
+    off : (p : Point) → isOver p ≡ true → OffItsEnds (h .m) (h .tolerance) (h .survey) heightsBy p
+    off p e =
+        let known = own-surveyed (h .m) (h .survey) (2 * h .tolerance) p e in
+        record { surveyed = known; off = ltb-true (2 * h .tolerance) _ (exceeding-filled (h .m) (h .survey) (2 * h .tolerance) p refl known ∙ e) }
+
+    over-off : (p : Point) → OffItsEnds (h .m) (h .tolerance) (h .survey) heightsBy p → isOver p ≡ true
+    over-off p o =
+        sym (exceeding-filled (h .m) (h .survey) (2 * h .tolerance) p refl (o .surveyed)) ∙ lt-ltb (2 * h .tolerance) _ (o .off)
+
     told-of : Told (h .m) (h .tolerance) (h .survey) isOver (taken h) (marksBy h) heightsBy
-    unfolding exceeding
     told-of =
         let a = accepted-handed h ok in
         record {
-          exceeds = λ p k. (ltb-true (2 * h .tolerance) _, lt-ltb (2 * h .tolerance) _);
+          exceeds = λ p k. (off p, over-off p);
           dependence = λ p k. rw (kept-at p k) (ap markedDependence (mark-at p k) ∙ mark-dependent (h .m) (h .survey) isOver p);
           voids = sym (count-voids (h .m) (h .survey) (a .lengths .survey) isOver (a .corners));
         }

@@ -1,5 +1,5 @@
--- Values of document 01, computed from the definitions: the marks, heights and counts of examples 2, 3, 4, 8, 9 and 10, example 11, and
--- each refusal, with what else was wrong beside it. So a slip in a definition that no law would notice is noticed here.
+-- Values of document 01, computed from the definitions: the marks, heights and counts of examples 2, 3, 4, 8, 9 and 10, and of a grid in
+-- which a void is an end; example 11, and each refusal, with what else was wrong beside it. So a slip in a definition that no law would notice is noticed here.
 use mathlib.Core.Path.{_≡_, refl}
 use mathlib.Core.List.{List, [], _∷_, _++_, map}
 use Prim.Native.Nat.{ℕ}
@@ -40,8 +40,13 @@ errors = refl
 abbrev ten : Handed
 ten = call 2 25 4 (pos 0 ∷ pos 10 ∷ replicate 23 (pos 0))
 
+-- a void that is an end of surveyed points, (1,0) and (3,0): its height, not its sample, is what they lie off; m = 2, zero but (2,0)
+-- void, tolerance 5
+abbrev flat : ℤ → List ℤ
+flat end = pos 0 ∷ pos 0 ∷ end ∷ replicate 22 (pos 0)
+
 abbrev examples : List Handed
-examples = call 1 9 9 p ∷ call 1 9 10 p ∷ call 1 9 5 q ∷ call 1 9 1 (v void) ∷ call 1 9 5 (v void) ∷ ten ∷ []
+examples = call 1 9 9 p ∷ call 1 9 10 p ∷ call 1 9 5 q ∷ call 1 9 1 (v void) ∷ call 1 9 5 (v void) ∷ ten ∷ call 2 25 5 (flat void) ∷ []
 
 pub example-marks : map marksAfter examples
     ≡ (3 ∷ 0 ∷ 3 ∷ 0 ∷ 1 ∷ 0 ∷ 3 ∷ 0 ∷ 3 ∷ []) ∷
@@ -50,15 +55,16 @@ pub example-marks : map marksAfter examples
     (3 ∷ 1 ∷ 3 ∷ 1 ∷ 6 ∷ 1 ∷ 3 ∷ 1 ∷ 3 ∷ []) ∷
     (3 ∷ 0 ∷ 3 ∷ 0 ∷ 4 ∷ 0 ∷ 3 ∷ 0 ∷ 3 ∷ []) ∷
     (3 ∷ 1 ∷ 2 ∷ 0 ∷ 3 ∷ 0 ∷ 2 ∷ 0 ∷ 0 ∷ 0 ∷ 2 ∷ 0 ∷ 2 ∷ 0 ∷ 0 ∷ 0 ∷ 0 ∷ 0 ∷ 0 ∷ 0 ∷ 3 ∷ 0 ∷ 0 ∷ 0 ∷ 3 ∷ []) ∷
+    (3 ∷ 0 ∷ 4 ∷ 0 ∷ 3 ∷ replicate 15 0 ++ 3 ∷ 0 ∷ 0 ∷ 0 ∷ 3 ∷ []) ∷
     []
 unfolding marksAfter refusal cornerVoid marksOf mark kept chain exceeding errorBy filled heightOf heightBy sample onGrid place point ends dependents kind units spacing level isCorner
 example-marks = refl
 
-pub example-heights : map heightsAfter examples ≡ p ∷ p ∷ q ∷ v (negsuc 3) ∷ v (negsuc 3) ∷ ten .survey ∷ []
+pub example-heights : map heightsAfter examples ≡ p ∷ p ∷ q ∷ v (negsuc 3) ∷ v (negsuc 3) ∷ ten .survey ∷ flat (pos 0) ∷ []
 unfolding heightsAfter refusal cornerVoid filled heightOf heightBy sample onGrid place point ends kind units spacing level isCorner
 example-heights = refl
 
-pub example-answers : map answerOf examples ≡ answer 0 1 0 0 ∷ answer 0 0 0 0 ∷ answer 0 1 1 0 ∷ answer 0 4 1 1 ∷ answer 0 0 0 1 ∷ answer 0 1 4 0 ∷ []
+pub example-answers : map answerOf examples ≡ answer 0 1 0 0 ∷ answer 0 0 0 0 ∷ answer 0 1 1 0 ∷ answer 0 4 1 1 ∷ answer 0 0 0 1 ∷ answer 0 1 4 0 ∷ answer 0 0 0 1 ∷ []
 unfolding answerOf refusal cornerVoid marksOf mark kept chain exceeding errorBy filled heightOf heightBy sample onGrid place point ends dependents kind units spacing level isCorner
 example-answers = refl
 

@@ -1,19 +1,18 @@
 -- Document 01's sentences about selection, as records: what the promise is proved to mean. Definitions only.
 use mathlib.Core.Path.{_≡_}
-use mathlib.Core.Bool.{Bool, true, not, _&&_}
+use mathlib.Core.Bool.{Bool, true, false, not, _&&_}
 use mathlib.Core.List.{List, List·Memᴰ}
 use mathlib.Core.Logic.{_↔_}
 use Prim.Native.Nat.{ℕ, _*_, _≤_, _<_}
 use lib.ListN.{length}
-use lib.IntN.{ℤ}
+use lib.IntN.{ℤ, pos, natAbs, _+ℤ_, _-ℤ_, _*ℤ_}
 use Rattle.grid.specs.Grid.{Inside, largest, samples, isVoid}
-use Rattle.grid.specs.Points.{isCorner, dependsOn}
+use Rattle.grid.specs.Points.{isCorner, ends, dependsOn}
 use Rattle.grid.specs.Mark.{forError, goodMark, keptMark, filledMark}
 use Rattle.grid.specs.Refusal.{accepted, sizeAbove, wrongLength, voidCorner, toleranceAbove}
 use Rattle.grid.specs.declared.points.Point.{Point}
 use Rattle.survey.specs.Filled.{sample, CornersSurveyed}
 use Rattle.survey.specs.Rule.{Fills}
-use Rattle.selection.specs.Error.{errorBy}
 use Rattle.selection.specs.Marks.{markAt, count, markedOwn, markedDependence}
 use Rattle.selection.specs.Selected.{highestTolerance, Handed}
 use Rattle.selection.specs.declared.Selected.{Selected}
@@ -74,10 +73,16 @@ pub record Selection (m : ℕ) (survey : List ℤ) (over : Point → Bool) (r : 
   pub dependentCount : r .dependent ≡ count markedDependence marks
   pub voidCount : r .voids ≡ count isVoid survey
 
--- what a reader may rely on besides: a point is over tolerance t when its own doubled error, by the heights written, exceeds 2t;
--- 2 and 6 stand at the points kept only for dependence; the voids are as many as the marks of 4 or more
+-- a point is off its ends, by the heights written alone: its sample is not void, and |2h - (a + b)| exceeds 2t, h the height at the
+-- point, a and b those at its two ends
+pub record OffItsEnds (m t : ℕ) (survey heights : List ℤ) (p : Point) : Type 0 where
+  pub surveyed : isVoid (sample m survey p) ≡ false
+  pub off : 2 * t < natAbs (pos 2 *ℤ sample m heights p -ℤ (sample m heights (ends m p .first) +ℤ sample m heights (ends m p .second)))
+
+-- what a reader may rely on besides: a point is over tolerance t exactly when it is off its ends, by the heights written; 2 and 6 stand at
+-- the points kept only for dependence; the voids are as many as the marks of 4 or more
 pub record Told (m t : ℕ) (survey : List ℤ) (over : Point → Bool) (r : Selected) (marks : List ℕ) (heights : List ℤ) : Type 0 where
-  pub exceeds : (p : Point) → Inside m p → (over p ≡ true) ↔ (2 * t < errorBy m survey heights p)
+  pub exceeds : (p : Point) → Inside m p → (over p ≡ true) ↔ OffItsEnds m t survey heights p
   pub dependence : (p : Point) → Inside m p →
       markedDependence (markAt m marks p) ≡ (not (isCorner m p) && (not (over p) && keptMark (markAt m marks p)))
   pub voids : r .voids ≡ count filledMark marks
