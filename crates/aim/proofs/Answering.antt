@@ -9,9 +9,10 @@ use borrow.Author.Tests.{ne-eqb}
 use Rattle.grid.specs.Grid.{largest, inQuarters, gridOf}
 use Rattle.grid.specs.Refusal.{accepted}
 use Rattle.grid.proofs.Places.{sound}
+use Rattle.survey.specs.Filled.{sample}
 use Rattle.aim.specs.Quotient.{format, plusZero, quotient}
-use Rattle.aim.specs.Aimed.{Handed, ended, refusal, heightIn, nowhere, surveyed, filled, says, heightAt, noGround, planeAt}
-use Rattle.aim.specs.Inner.{Stands, found, filledIn, Footing, weightedIn, groundAt}
+use Rattle.aim.specs.Aimed.{Handed, ended, refusal, heightIn, nowhere, surveyed, filled, says, heightAt, noGround, planeAt, CornersSixteen}
+use Rattle.aim.specs.Inner.{Stands, Stored, found, filledIn, Footing, weightedIn, groundAt}
 use Rattle.aim.specs.declared.walk.Reached.{Reached}
 use Rattle.aim.specs.declared.walk.Walked.{Walked}
 use Rattle.aim.specs.declared.walk.Walked.the-variants.{Ended, Refused}
@@ -87,6 +88,13 @@ module _ (h : Handed) where
     plane-ended =
         rw (ends, ground-placed (h .m) (h .heights) (ended h) (weighs h (accepted-handed h taken .within))) (sym (answered.plane-taken h taken))
 
+    -- what was read at its corners stands at the corners of the final triangle
+    pub sixteen-ended : Stored (h .heights) t → CornersSixteen h
+    unfolding sample
+    sixteen-ended stored =
+        let s : Stored (h .heights) (to h) = rw ends at stored in
+        record { left = s .left; apex = s .apex; right = s .right }
+
   -- a number was found
   module _ {n : ℕ} (is : Refused n ≡ found h) where
     turned-down : refusal h ≢ accepted
@@ -97,6 +105,9 @@ module _ (h : Handed) where
 
     pub height-refused : says n nowhere plusZero ≡ heightAt h
     height-refused = rw number (sym (answered.height-refused h turned-down))
+
+    pub sixteen-refused : refusal h ≡ accepted → CornersSixteen h
+    sixteen-refused ok = absurd (turned-down ok)
 
     pub plane-refused : record { refusal = n; ground = noGround } ≡ planeAt h
     plane-refused = rw number (sym (answered.plane-refused h turned-down))

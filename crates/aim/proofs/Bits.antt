@@ -24,24 +24,24 @@ use Rattle.aim.proofs.Standing.{read}
 use Rattle.aim.proofs.Planes.{weighted-most, tilt-most}
 
 -- what the code holds at a place has 16 bits
-abbrev pub Stored : List ℤ → ℕ → Type 0
-Stored heights i = SFits w16 (getD heights i (pos 0))
+abbrev pub Held : List ℤ → ℕ → Type 0
+Held heights i = SFits w16 (getD heights i (pos 0))
 
-of-16 : (heights : List ℤ) (i : ℕ) → i < length heights → Stored heights i → SFits w16 (standing heights i)
+pub of-16 : (heights : List ℤ) (i : ℕ) → i < length heights → Held heights i → SFits w16 (standing heights i)
 of-16 heights i below f = rw (any-default heights i (pos 0) void below) at f
 
 -- what it reads there is what stands there
 abbrev pub Seen : List ℤ → ℕ → Type 0
 Seen heights i = Exact (toZ w16 (ofZ w16 (getD heights i (pos 0)))) (standing heights i) 32768
 
-pub reading : (heights : List ℤ) (i : ℕ) → i < length heights → Stored heights i → Seen heights i
+pub reading : (heights : List ℤ) (i : ℕ) → i < length heights → Held heights i → Seen heights i
 reading heights i below f = record {
   same = read heights i below f;
   size = natAbs-le (standing heights i) (of-16 heights i below f .sfits);
 }
 
 module _ (heights : List ℤ) (t : Reached) (stands : Stands heights t) (light : Light t) (surveyed : voidIn heights t ≡ false) where
-  pub weighted-held : Stored heights (t .l) → Stored heights (t .a) → Stored heights (t .r) → natAbs (weightedIn heights t) < 2 ^ prec format
+  pub weighted-held : Held heights (t .l) → Held heights (t .a) → Held heights (t .r) → natAbs (weightedIn heights t) < 2 ^ prec format
   unfolding weightedIn
   weighted-held l a r =
       let v = none (isVoid (standing heights (t .l))) (isVoid (standing heights (t .a))) (isVoid (standing heights (t .r))) surveyed in
@@ -53,7 +53,7 @@ module _ (heights : List ℤ) (t : Reached) (stands : Stands heights t) (light :
       in
       omega (arith, most, mul-le-mul-right highest light)
     where
-      at-place : (i : ℕ) → i < length heights → Stored heights i → isVoid (standing heights i) ≡ false → Height (standing heights i)
+      at-place : (i : ℕ) → i < length heights → Held heights i → isVoid (standing heights i) ≡ false → Height (standing heights i)
       at-place i below f v =
           above-height (standing heights i) (not-void-above (standing heights i) (of-16 heights i below f .sfits) v)
 

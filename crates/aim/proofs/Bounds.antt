@@ -3,18 +3,16 @@
 use mathlib.Core.Path.{_≡_, refl, sym}
 use mathlib.Core.Bool.{false}
 use mathlib.Core.List.{List}
-use Prim.Native.Nat.{ℕ, _+_, _*_, _^_, _≤_}
+use Prim.Native.Nat.{ℕ, _+_, _*_, _^_, _≤_, _<_}
 use native.Mathlib.Omega.{arith}
-use lib.ListN.{length}
 use lib.IntN.{ℤ, natAbs}
 use lib.Pow.{pow-add}
-use Rattle.grid.specs.Grid.{Height, highest, largest, widest, side, samples, inQuarters, isVoid, Inside}
+use lib.Signed.{mag}
+use Rattle.grid.specs.Grid.{Height, highest, largest, widest, side, inQuarters, isVoid, Inside}
 use Rattle.grid.specs.declared.points.Point.{Point}
 use Rattle.grid.proofs.Places.{side-small}
 use Rattle.survey.specs.Filled.{sample}
-use Rattle.survey.specs.Rule.{Sixteen}
 use Rattle.survey.proofs.Mean.{not-void-above, above-height}
-use Rattle.survey.proofs.Rule.{small-sample}
 use Rattle.mesh.specs.Triangles.{three, written}
 use Rattle.aim.specs.Quotient.{format, Representable}
 use Rattle.aim.specs.Walk.{Weighed}
@@ -28,10 +26,8 @@ pub quarters-power : (m : ℕ) → inQuarters m ≡ 2 ^ (2 + m)
 quarters-power m = sym (pow-add 2 2 m)
 
 -- a sample of 16 bits that is not void is a height, from -32767 to 32767
-pub is-height : (m : ℕ) (heights : List ℤ) → length heights ≡ samples m → Sixteen heights → (p : Point) → Inside m p →
-    isVoid (sample m heights p) ≡ false → Height (sample m heights p)
-is-height m heights n small p h e =
-    above-height (sample m heights p) (not-void-above (sample m heights p) (small-sample m heights n small p h) e)
+pub is-height : (h : ℤ) → mag h < 32768 → isVoid h ≡ false → Height h
+is-height h small e = above-height h (not-void-above h small e)
 
 -- a sample of the square, with a height
 pub record Known (m : ℕ) (heights : List ℤ) (p : Point) : Type 0 where

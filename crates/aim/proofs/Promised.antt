@@ -1,5 +1,5 @@
 -- The contracts of the two calls, as the code states them, tie the answer to what was handed over, in their order: the marks, the heights, the size
--- and the point. So whatever a call answers follows document 01's sentences, for heights of 16 bits, which a lent `&[i16]` has.
+-- and the point. So whatever a call answers follows document 01's sentences: the float is the quotient exactly, and no premise is left.
 use mathlib.Core.Path.{_≡_, refl}
 use mathlib.Core.List.{List}
 use Prim.Native.Nat.{ℕ}
@@ -8,7 +8,6 @@ use lib.Ieee.{Float}
 use denote.Ref.{now}
 use Rattle.grid.specs.Grid.{at}
 use Rattle.grid.specs.Refusal.{accepted}
-use Rattle.survey.specs.Rule.{Sixteen}
 use Rattle.aim.specs.Quotient.{plusZero}
 use Rattle.aim.specs.Aimed.{handed, nowhere, surveyed, filled, says, said}
 use Rattle.aim.specs.Rule.{queried, FollowsHeight, FollowsPlane}
@@ -29,10 +28,10 @@ pub in-place : (marks : List ℕ) (heights : List ℤ) (m x y : ℕ) →
     let h = handed marks heights m x y in (h .marks ≡ marks) × (h .heights ≡ heights) × (h .m ≡ m) × (queried h ≡ at x y)
 in-place marks heights m x y = (refl, refl, refl, refl)
 
-pub height-promised : (k : _) (a : _) (r : HeightAnswer) (o : _) → height-reads.Learnt k a r o → Sixteen (now (a .1 .0)) →
+pub height-promised : (k : _) (a : _) (r : HeightAnswer) (o : _) → height-reads.Learnt k a r o →
     FollowsHeight (handed (now (a .0)) (now (a .1 .0)) (a .1 .1 .0) (a .1 .1 .1 .0) (a .1 .1 .1 .1 .0)) r
-height-promised k a r o promise small = follows-height small .0 promise
+height-promised k a r o promise = follows-height (promise .sixteen) .0 (promise .answer)
 
-pub plane-promised : (k : _) (a : _) (r : PlaneAnswer) (o : _) → plane-reads.Learnt k a r o → Sixteen (now (a .1 .0)) →
+pub plane-promised : (k : _) (a : _) (r : PlaneAnswer) (o : _) → plane-reads.Learnt k a r o →
     FollowsPlane (handed (now (a .0)) (now (a .1 .0)) (a .1 .1 .0) (a .1 .1 .1 .0) (a .1 .1 .1 .1 .0)) r
-plane-promised k a r o promise small = follows-plane small .0 promise
+plane-promised k a r o promise = follows-plane (promise .sixteen) .0 (promise .answer)

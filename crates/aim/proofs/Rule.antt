@@ -1,6 +1,6 @@
 -- The promises of height and plane, and document 01's sentences, imply each other, of any answer: what meets a promise follows the sentences,
--- and whatever follows the sentences meets the promise. So the sentences leave nothing open. Heights are numbers of 16 bits, as the
--- code's are. Then what else holds of an answered call.
+-- and whatever follows the sentences meets the promise. So the sentences leave nothing open. The heights of an
+-- answered call are numbers of 16 bits, as its promise says. Then what else holds of it.
 use mathlib.Core.Path.{_≡_, refl, sym, ap, _∙_}
 use mathlib.Core.Bool.{Bool, true, false, cond, true≢false}
 use mathlib.Core.List.{List·Memᴰ, List·Memᴰ·head, List·Memᴰ·tail}
@@ -11,19 +11,20 @@ use native.Mathlib.Decide.{ℕ-discrete}
 use lib.IntN.{ℤ}
 use lib.Ieee.{Float}
 use lib.Pow.{pow-pos}
+use mir.Syntax.{w16}
+use mir.Val.{SFits}
 use Rattle.grid.specs.Grid.{inQuarters, isVoid, Inside}
 use Rattle.grid.specs.Refusal.{accepted}
 use Rattle.grid.specs.declared.points.Point.{Point}
 use Rattle.grid.proofs.Cutting.{corners-inside}
 use Rattle.grid.proofs.Sums.{false-by}
 use Rattle.survey.specs.Filled.{sample}
-use Rattle.survey.specs.Rule.{Sixteen}
 use Rattle.selection.proofs.Some.{in-some}
 use Rattle.mesh.specs.Triangles.{Three, written}
 use Rattle.aim.specs.Quotient.{format, plusZero, Exactly}
 use Rattle.aim.specs.Walk.{Weighed}
 use Rattle.aim.specs.Aimed.{Handed, ended, cornersOf, refusal, asWritten, weighted, eastward, northward, isFilled, heightIn, groundIn, noGround}
-use Rattle.aim.specs.Aimed.{Origin, nowhere, surveyed, filled, Said, says, said, heightAt, planeAt}
+use Rattle.aim.specs.Aimed.{Origin, nowhere, surveyed, filled, Said, says, said, heightAt, planeAt, CornersSixteen}
 use Rattle.aim.specs.Geometry.{area}
 use Rattle.aim.specs.Rule.{queried, FilledCorner, Ground, Answered, FollowsHeight, Grounded, FollowsPlane, Told}
 use Rattle.aim.specs.declared.HeightAnswer.{HeightAnswer}
@@ -56,7 +57,7 @@ origin-surveyed true = (λ e. absurd (omega (arith, ap kind e)), λ n. absurd (n
 origin-surveyed false = (λ e t. true≢false (sym t), λ n. refl)
 
 -- an answered call
-module _ (h : Handed) (small : Sixteen (h .heights)) (a : Accepted h) where
+module _ (h : Handed) (small : CornersSixteen h) (a : Accepted h) where
   abbrev triangle : Weighed
   triangle = ended h .triangle
 
@@ -115,18 +116,18 @@ module _ (h : Handed) (small : Sixteen (h .heights)) (a : Accepted h) where
   known =
       let inside = corners-inside (here .triangle) in
       record {
-        left = at (triangle .l) (inside .left) (List·Memᴰ·head refl);
-        apex = at (triangle .a) (inside .top) (List·Memᴰ·tail (List·Memᴰ·head refl));
-        right = at (triangle .r) (inside .right) (List·Memᴰ·tail (List·Memᴰ·tail (List·Memᴰ·head refl)));
+        left = at (triangle .l) (inside .left) (small .left) (List·Memᴰ·head refl);
+        apex = at (triangle .a) (inside .top) (small .apex) (List·Memᴰ·tail (List·Memᴰ·head refl));
+        right = at (triangle .r) (inside .right) (small .right) (List·Memᴰ·tail (List·Memᴰ·tail (List·Memᴰ·head refl)));
       }
     where
       void : Point → Bool
       void p = isVoid (sample (h .m) (h .heights) p)
 
-      at : (p : Point) → Inside (h .m) p → List·Memᴰ p (cornersOf triangle) → Known (h .m) (h .heights) p
-      at p i k =
+      at : (p : Point) → Inside (h .m) p → SFits w16 (sample (h .m) (h .heights) p) → List·Memᴰ p (cornersOf triangle) → Known (h .m) (h .heights) p
+      at p i f k =
           let surveyed = false-by (void p) (λ v. true≢false (sym (in-some void (cornersOf triangle) k v) ∙ a .surveyed)) in
-          record { inside = i; height = is-height (h .m) (h .heights) (a .long .heights) small p i surveyed }
+          record { inside = i; height = is-height (sample (h .m) (h .heights) p) (f .sfits) surveyed }
 
   exact-height : Exactly format z (inQuarters (h .m)) (heightIn (h .m) (h .heights) triangle)
   unfolding heightIn
@@ -229,7 +230,7 @@ unsaid (Surveyed x) n = absurd (n refl)
 unsaid (Filled x) n = absurd (n refl)
 unsaid (Refused k) n = (refl, refl)
 
-pub follows-height : {h : Handed} {r : HeightAnswer} → Sixteen (h .heights) → (said r ≡ heightAt h) ↔ FollowsHeight h r
+pub follows-height : {h : Handed} {r : HeightAnswer} → (refusal h ≡ accepted → CornersSixteen h) → (said r ≡ heightAt h) ↔ FollowsHeight h r
 follows-height {h} {r} small = (to, λ f. from f (ℕ-discrete (said r .refusal) accepted))
   where
     to : said r ≡ heightAt h → FollowsHeight h r
@@ -239,20 +240,20 @@ follows-height {h} {r} small = (to, λ f. from f (ℕ-discrete (said r .refusal)
           turned = rw number (turned h);
           answered = λ ok.
               let ok′ = sym number ∙ ok in
-              rw (s ∙ height-taken h ok′) (answered h small (accepted-handed h ok′));
+              rw (s ∙ height-taken h ok′) (answered h (small ok′) (accepted-handed h ok′));
         }
 
     from : FollowsHeight h r → Dec (said r .refusal ≡ accepted) → said r ≡ heightAt h
     from f (yes ok) =
         let ok′ = sym (turned-only h (f .turned)) ∙ ok in
-        let k = answered-only h small (accepted-handed h ok′) (f .answered ok) in
+        let k = answered-only h (small ok′) (accepted-handed h ok′) (f .answered ok) in
         (λ i. says (ok i) (k .0 i) (k .1 i)) ∙ sym (height-taken h ok′)
     from f (no n) =
         let given = turned-only h (f .turned) in
         let k = unsaid r n in
         (λ i. says (given i) (k .0 i) (k .1 i)) ∙ sym (height-refused h (λ ok. n (given ∙ ok)))
 
-pub follows-plane : {h : Handed} {r : PlaneAnswer} → Sixteen (h .heights) → (r ≡ planeAt h) ↔ FollowsPlane h r
+pub follows-plane : {h : Handed} {r : PlaneAnswer} → (refusal h ≡ accepted → CornersSixteen h) → (r ≡ planeAt h) ↔ FollowsPlane h r
 follows-plane {h} {r} small = (to, λ f. from f (ℕ-discrete (r .refusal) accepted))
   where
     to : r ≡ planeAt h → FollowsPlane h r
@@ -262,13 +263,13 @@ follows-plane {h} {r} small = (to, λ f. from f (ℕ-discrete (r .refusal) accep
         record {
           turned = rw number (turned h);
           refused = λ n. let e = ground ∙ ap (λ (x : PlaneAnswer). x .ground) (plane-refused h (λ ok. n (number ∙ ok))) in rw e (record { height = refl; east = refl; north = refl });
-          answered = λ ok. let ok′ = sym number ∙ ok in grounded h small (accepted-handed h ok′) r (ground ∙ ap (λ (x : PlaneAnswer). x .ground) (plane-taken h ok′));
+          answered = λ ok. let ok′ = sym number ∙ ok in grounded h (small ok′) (accepted-handed h ok′) r (ground ∙ ap (λ (x : PlaneAnswer). x .ground) (plane-taken h ok′));
         }
 
     from : FollowsPlane h r → Dec (r .refusal ≡ accepted) → r ≡ planeAt h
     from f (yes ok) =
         let ok′ = sym (turned-only h (f .turned)) ∙ ok in
-        let k = grounded-only h small (accepted-handed h ok′) r (f .answered ok) in
+        let k = grounded-only h (small ok′) (accepted-handed h ok′) r (f .answered ok) in
         (λ i. record { refusal = ok i; ground = k i }) ∙ sym (plane-taken h ok′)
     from f (no n) =
         let given = turned-only h (f .turned) in
@@ -277,7 +278,7 @@ follows-plane {h} {r} small = (to, λ f. from f (ℕ-discrete (r .refusal) accep
         (λ i. record { refusal = given i; ground = none i }) ∙ sym (plane-refused h (λ ok. n (given ∙ ok)))
 
 -- what else holds of an answered call
-pub told : (h : Handed) → Sixteen (h .heights) → refusal h ≡ accepted → Told h
+pub told : (h : Handed) → CornersSixteen h → refusal h ≡ accepted → Told h
 told h small ok = record {
   most = λ g. rw (same-plane h small a g .0) (whole-largest (h .heights) (a .small) w (known h small a));
   below = λ g. rw (same-plane h small a g .0) (height-fits (h .heights) (a .small) w (known h small a) .whole);

@@ -1,5 +1,6 @@
 -- Height and ground plane as a whole: the refusals, in their order, and the answers. Document 01, "Height at a point", "What a call may
 -- turn down". Definitions only.
+use mathlib.Core.Path.{_≡_}
 use mathlib.Core.Bool.{Bool, cond, not, _&&_, _||_}
 use mathlib.Core.List.{List, [], _∷_, _++_}
 use Prim.Native.Nat.{ℕ, _*_, _^_}
@@ -7,6 +8,8 @@ use lib.Dec.{eqb, ltb}
 use lib.ListN.{length}
 use lib.IntN.{ℤ, pos, _+ℤ_, _-ℤ_, _*ℤ_}
 use lib.Ieee.{Float}
+use mir.Syntax.{w16}
+use mir.Val.{SFits}
 use Rattle.grid.specs.Grid.{largest, samples, inQuarters, at, isVoid}
 use Rattle.grid.specs.Mark.{filledMark}
 use Rattle.grid.specs.Refusal.{accepted, sizeAbove, wrongLength, voidCorner, pointBeyond, badMark}
@@ -153,3 +156,20 @@ noGround = record { height = plusZero; east = plusZero; north = plusZero }
 unfoldable pub planeAt : Handed → PlaneAnswer
 planeAt h =
     record { refusal = refusal h; ground = cond (eqb (refusal h) accepted) (groundIn (h .m) (h .heights) (ended h)) noGround }
+
+-- The heights at the corners of the final triangle, from which all is worked out, are signed numbers of 16 bits, as those of a lent `&[i16]` are.
+-- (Lists of the definitions may hold any whole numbers, and of a height of 2^40 + 1 no float is exact.)
+pub record CornersSixteen (h : Handed) : Type 0 where
+  pub left : SFits w16 (sample (h .m) (h .heights) (ended h .triangle .l))
+  pub apex : SFits w16 (sample (h .m) (h .heights) (ended h .triangle .a))
+  pub right : SFits w16 (sample (h .m) (h .heights) (ended h .triangle .r))
+
+-- the promise of height: what the answer says; and that the heights of an answer have 16 bits
+pub record AnswersHeight (h : Handed) (r : HeightAnswer) : Type 0 where
+  pub answer : said r ≡ heightAt h
+  pub sixteen : refusal h ≡ accepted → CornersSixteen h
+
+-- the promise of plane, likewise
+pub record AnswersPlane (h : Handed) (r : PlaneAnswer) : Type 0 where
+  pub answer : r ≡ planeAt h
+  pub sixteen : refusal h ≡ accepted → CornersSixteen h

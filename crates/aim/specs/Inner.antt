@@ -7,6 +7,8 @@ use lib.Dec.{eqb, leb, ltb}
 use lib.ListN.{length, getD}
 use lib.IntN.{ℤ, pos, natAbs, _+ℤ_, _*ℤ_}
 use lib.Ieee.{Float, prec}
+use mir.Syntax.{w16}
+use mir.Val.{SFits}
 use Rattle.grid.specs.Grid.{samples, largest, inQuarters, place, point, midplace, void, isVoid, Sound}
 use Rattle.grid.specs.Points.{odd}
 use Rattle.grid.specs.Mark.{leftOut, goodMark}
@@ -140,10 +142,22 @@ unfoldable pub weightedIn : List ℤ → Reached → ℤ
 weightedIn heights t =
     pos (t .wl) *ℤ standing heights (t .l) +ℤ pos (t .wa) *ℤ standing heights (t .a) +ℤ pos (t .wr) *ℤ standing heights (t .r)
 
+-- what was read at the corners has 16 bits
+pub record Stored (heights : List ℤ) (t : Reached) : Type 0 where
+  pub left : SFits w16 (standing heights (t .l))
+  pub apex : SFits w16 (standing heights (t .a))
+  pub right : SFits w16 (standing heights (t .r))
+
 -- that sum, small enough for a float
 pub record Summed (heights : List ℤ) (t : Reached) (r : ℤ) : Type 0 where
   pub is : r ≡ weightedIn heights t
   pub small : natAbs r < 2 ^ prec format
+  pub stored : Stored heights t
+
+-- the height, by heights of 16 bits
+pub record HeightFound (m : ℕ) (heights : List ℤ) (t : Reached) (r : Float) : Type 0 where
+  pub is : r ≡ quotient format (weightedIn heights t) (inQuarters m)
+  pub stored : Stored heights t
 
 -- three places of a grid's heights, and so many cuts left
 pub record Facing (g : Grid) (heights : List ℤ) (p q w left : ℕ) : Type 0 where
@@ -174,3 +188,8 @@ groundAt m heights t =
     cond (odd (t .left))
     (groundBy m heights height (t .r) (t .a) (t .l) (t .left))
     (groundBy m heights height (t .l) (t .a) (t .r) (t .left))
+
+-- the plane, by heights of 16 bits
+pub record GroundFound (m : ℕ) (heights : List ℤ) (t : Reached) (r : GroundPlane) : Type 0 where
+  pub is : r ≡ groundAt m heights t
+  pub stored : Stored heights t

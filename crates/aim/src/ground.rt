@@ -6,10 +6,9 @@ use grid::Grid;
 ghost use mathlib.Core.Path.{_≡_};
 ghost use mathlib.Core.Bool.{false};
 ghost use Prim.Native.Nat.{_≤_, _<_};
-ghost use Rattle.grid.specs.Grid.{inQuarters, widest};
-ghost use Rattle.aim.specs.Quotient.{format, quotient};
+ghost use Rattle.grid.specs.Grid.{widest};
 ghost use Rattle.aim.specs.Aimed.{tilt};
-ghost use Rattle.aim.specs.Inner.{Footing, Facing, Stands, Light, voidIn, Summed, weightedIn, groundBy, groundAt};
+ghost use Rattle.aim.specs.Inner.{Footing, Facing, Stands, Light, voidIn, Summed, HeightFound, groundBy, GroundFound};
 
 // The height times 4N: since no corner is void, a float holds it.
 fn weighted(heights: &[i16], t: Reached) -> i32
@@ -26,7 +25,7 @@ fn weighted(heights: &[i16], t: Reached) -> i32
 
 pub(crate) fn height_in(g: Grid, heights: &[i16], t: Reached) -> f32
     requires { ⌜ Footing g (now heights) t ⌝ }
-    ensures { λ r. ⌜ r ≡ quotient format (weightedIn (now (heights .entry)) t) (inQuarters (g .m)) ⌝ }
+    ensures { λ r. ⌜ HeightFound (g .m) (now (heights .entry)) t r ⌝ }
 {
     quotient(weighted(heights, t), g.in_quarters())
 }
@@ -72,7 +71,7 @@ fn ground_by(
 // After an odd number of cuts (l, a, r) turns clockwise.
 pub(crate) fn ground_at(g: Grid, heights: &[i16], t: Reached) -> GroundPlane
     requires { ⌜ Footing g (now heights) t ⌝ }
-    ensures { λ r. ⌜ r ≡ groundAt (g .m) (now (heights .entry)) t ⌝ }
+    ensures { λ r. ⌜ GroundFound (g .m) (now (heights .entry)) t r ⌝ }
 {
     let height = height_in(g, heights, t);
     if t.left % 2 == 1 {

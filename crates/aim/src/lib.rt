@@ -19,7 +19,7 @@ ghost use Prim.Native.Nat.{_<_};
 ghost use lib.Dec.{eqb, ltb};
 ghost use lib.ListN.{length};
 ghost use Rattle.grid.specs.Grid.{Sound, inQuarters};
-ghost use Rattle.aim.specs.Aimed.{handed, fills, said, heightAt, planeAt};
+ghost use Rattle.aim.specs.Aimed.{handed, fills, AnswersHeight, AnswersPlane};
 ghost use Rattle.aim.specs.Inner.{Stands, Over, voidIn, lastRefusal, checked, begun, Begun, finished, filledIn};
 
 pub enum HeightAnswer {
@@ -168,7 +168,7 @@ fn filled_in(marks: &[u8], t: Reached) -> bool
 }
 
 pub fn height(marks: &[u8], heights: &[i16], m: u32, x: u32, y: u32) -> HeightAnswer
-    ensures { λ r. ⌜ said r ≡ heightAt (handed (now (marks .entry)) (now (heights .entry)) m x y) ⌝ }
+    ensures { λ r. ⌜ AnswersHeight (handed (now (marks .entry)) (now (heights .entry)) m x y) r ⌝ }
 {
     let walked = finish(marks, heights, m, begin(marks, heights, m, x, y));
     match walked {
@@ -184,7 +184,7 @@ pub fn height(marks: &[u8], heights: &[i16], m: u32, x: u32, y: u32) -> HeightAn
 }
 
 pub fn plane(marks: &[u8], heights: &[i16], m: u32, x: u32, y: u32) -> PlaneAnswer
-    ensures { λ r. ⌜ r ≡ planeAt (handed (now (marks .entry)) (now (heights .entry)) m x y) ⌝ }
+    ensures { λ r. ⌜ AnswersPlane (handed (now (marks .entry)) (now (heights .entry)) m x y) r ⌝ }
 {
     let walked = finish(marks, heights, m, begin(marks, heights, m, x, y));
     match walked {

@@ -6,11 +6,11 @@ use Rattle.grid.specs.Grid.{inQuarters}
 use Rattle.grid.specs.Refusal.{accepted}
 use Rattle.grid.specs.declared.Grid.{Grid}
 use Rattle.aim.specs.Quotient.{format, quotient}
-use Rattle.aim.specs.Aimed.{Handed, handed, filled, surveyed, says, heightAt}
+use Rattle.aim.specs.Aimed.{Handed, handed, filled, surveyed, says, heightAt, CornersSixteen}
 use Rattle.aim.specs.Inner.{finished, found, weightedIn}
 use Rattle.aim.specs.declared.walk.Walked.the-variants.{Ended, Refused}
 use Rattle.aim.proofs.Finding.{begun-ready, finished-begun}
-use Rattle.aim.proofs.Answering.{ended-small, ended-grounded, ended-marked, height-ended, height-refused}
+use Rattle.aim.proofs.Answering.{ended-small, ended-grounded, ended-marked, height-ended, height-refused, sixteen-ended, sixteen-refused}
 use Rattle.aim.proofs.height.Statement.{statement}
 use Rattle.aim.proofs.height.Tie as tie
 use Rattle.aim.proofs.height.Reads as reads
@@ -68,8 +68,12 @@ answered c =
     let h = asked (w .before .before) in
     let t = w .walked2 .given .0 .0 in
     let g = c .before .before .grid-of .ensures in
-    let x = c .before .height-in .ensures ∙ ap (λ (g : Grid). quotient format (weightedIn (h .heights) t) (inQuarters (g .m))) g in
+    let x = c .before .height-in .ensures .is ∙ ap (λ (g : Grid). quotient format (weightedIn (h .heights) t) (inQuarters (g .m))) g in
     rw (c .filled-in .ensures, x) (height-ended h (ended-here w))
+
+sixteen : (c : lts.After-filled-in claims reads.Pre reads.Post) → CornersSixteen (asked (c .before .before .before .before .before .before))
+sixteen c =
+    let w = c .before .before .before .before in sixteen-ended (asked (w .before .before)) (ended-here w) (c .before .height-in .ensures .stored)
 
 begin-requires : tie.Need-begin-requires
 begin-requires c κs = search needs
@@ -94,13 +98,16 @@ filled-in-requires : tie.Need-filled-in-requires
 filled-in-requires c κs = let w = c .before .before .before in ended-marked (asked (w .before .before)) (ended-here w)
 
 returns : tie.Need-returns
-returns c = rw (c .if1 .taken) at (answered (c .before))
+returns c = record { answer = rw (c .if1 .taken) at (answered (c .before)); sixteen = λ ok. sixteen (c .before) }
 
 returns-2 : tie.Need-returns-2
-returns-2 c = height-refused (asked (c .before .before .before)) (refused-here (c .before))
+returns-2 c =
+    let h = asked (c .before .before .before) in
+    let is = refused-here (c .before) in
+    record { answer = height-refused h is; sixteen = sixteen-refused h is }
 
 returns-3 : tie.Need-returns-3
-returns-3 c = rw (c .if1 .left) at (answered (c .before))
+returns-3 c = record { answer = rw (c .if1 .left) at (answered (c .before)); sixteen = λ ok. sixteen (c .before) }
 
 pub height-spec : {M : Type 1} → statement M
 height-spec =

@@ -7,7 +7,7 @@ use Rattle.aim.specs.Aimed.{Handed, handed}
 use Rattle.aim.specs.Inner.{finished, found, groundAt}
 use Rattle.aim.specs.declared.walk.Walked.the-variants.{Ended, Refused}
 use Rattle.aim.proofs.Finding.{begun-ready, finished-begun}
-use Rattle.aim.proofs.Answering.{ended-small, ended-grounded, plane-ended, plane-refused}
+use Rattle.aim.proofs.Answering.{ended-small, ended-grounded, plane-ended, plane-refused, sixteen-ended, sixteen-refused}
 use Rattle.aim.proofs.plane.Statement.{statement}
 use Rattle.aim.proofs.plane.Tie as tie
 use Rattle.aim.proofs.plane.Reads as reads
@@ -74,15 +74,21 @@ ground-at-requires c κs =
 
 returns : tie.Need-returns
 unfolding ofBits
-returns c = plane-refused (asked (c .before .before .before)) (refused-here (c .before))
+returns c =
+    let h = asked (c .before .before .before) in
+    let is = refused-here (c .before) in
+    record { answer = plane-refused h is; sixteen = sixteen-refused h is }
 
 returns-2 : tie.Need-returns-2
 returns-2 c =
     let w = c .before .before .before in
     let h = asked (w .before .before) in
     let t = w .walked2 .given .0 .0 in
-    let ground = c .ground-at .ensures ∙ ap (λ (g : Grid). groundAt (g .m) (h .heights) t) (c .before .grid-of .ensures) in
-    rw ground (plane-ended h (ended-here w))
+    let ground = c .ground-at .ensures .is ∙ ap (λ (g : Grid). groundAt (g .m) (h .heights) t) (c .before .grid-of .ensures) in
+    record {
+      answer = rw ground (plane-ended h (ended-here w));
+      sixteen = λ ok. sixteen-ended h (ended-here w) (c .ground-at .ensures .stored);
+    }
 
 pub plane-spec : {M : Type 1} → statement M
 plane-spec =

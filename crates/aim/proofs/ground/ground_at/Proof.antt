@@ -33,8 +33,11 @@ unfolding groundAt
 returns c =
     let s = c .before .before .before .before in
     let t = s .args .t in
-    rw (odd-true (t .left) (c .before .if1 .taken))
-    (of-height s (t .r) (t .a) (t .l) (c .ground-by .ensures) (c .before .before .before .height-in .ensures))
+    let x = c .before .before .before .height-in .ensures in
+    record {
+      is = rw (odd-true (t .left) (c .before .if1 .taken)) (of-height s (t .r) (t .a) (t .l) (c .ground-by .ensures) (x .is));
+      stored = x .stored;
+    }
 
 ground-by-requires-2 : tie.Need-ground-by-requires-2
 ground-by-requires-2 c κs = search needs
@@ -44,8 +47,11 @@ unfolding groundAt
 returns-2 c =
     let s = c .before .before .before .before in
     let t = s .args .t in
-    rw (ne-eqb (t .left % 2) 1 (c .before .if1 .left))
-    (of-height s (t .l) (t .a) (t .r) (c .ground-by2 .ensures) (c .before .before .before .height-in .ensures))
+    let x = c .before .before .before .height-in .ensures in
+    record {
+      is = rw (ne-eqb (t .left % 2) 1 (c .before .if1 .left)) (of-height s (t .l) (t .a) (t .r) (c .ground-by2 .ensures) (x .is));
+      stored = x .stored;
+    }
 
 pub ground-at-spec : {M : Type 1} → statement M
 ground-at-spec =

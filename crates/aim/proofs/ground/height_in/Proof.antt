@@ -30,8 +30,12 @@ quotient-requires c κs =
 returns : tie.Need-returns
 returns c =
     let w = c .before .before .weighted in
-    c .quotient .ensures
-    ∙ (λ i. quotient format ((arrives (w .result) (w .ok) ∙ w .ensures .is) i) (c .before .in-quarters .ensures i))
+    record {
+      is =
+          c .quotient .ensures
+          ∙ (λ i. quotient format ((arrives (w .result) (w .ok) ∙ w .ensures .is) i) (c .before .in-quarters .ensures i));
+      stored = w .ensures .stored;
+    }
 
 pub height-in-spec : {M : Type 1} → statement M
 height-in-spec =

@@ -10,7 +10,7 @@ use mir.Val.{toZ, ofZ}
 use Rattle.aim.specs.Inner.{standing, weightedIn}
 use Rattle.selection.proofs.Exact.{Exact, handed, held, fits}
 use Rattle.aim.proofs.Products.{product, counted, in32, first-two, all-three}
-use Rattle.aim.proofs.Bits.{Stored, reading, weighted-held}
+use Rattle.aim.proofs.Bits.{Held, of-16, reading, weighted-held}
 use Rattle.aim.proofs.ground.weighted.Statement.{statement}
 use Rattle.aim.proofs.ground.weighted.Tie as tie
 use Rattle.aim.proofs.ground.weighted.Reads as reads
@@ -20,7 +20,7 @@ use Rattle.aim.proofs.ground.weighted.Lts as lts
 abbrev Share : List ℤ → ℕ → ℕ → Type 0
 Share heights w i = Exact (toZ w32 w *ℤ in32 (toZ w16 (ofZ w16 (getD heights i (pos 0))))) (pos w *ℤ standing heights i) 16777216
 
-share : (heights : List ℤ) (w i : ℕ) → w ≤ 512 → i < length heights → Stored heights i → Share heights w i
+share : (heights : List ℤ) (w i : ℕ) → w ≤ 512 → i < length heights → Held heights i → Share heights w i
 share heights w i k l f = product (counted k (omega arith)) (held (reading heights i l f) (omega arith))
 
 -- where the first, the second and the third height have been read
@@ -33,7 +33,7 @@ Second = lts.After-result2 reads.Pre reads.Post
 abbrev Third : Type 0
 Third = lts.After-result3 reads.Pre reads.Post
 
-read-left : (c : First) → let a = c .before .before .args in Stored (a .heights .now) (a .t .l)
+read-left : (c : First) → let a = c .before .before .args in Held (a .heights .now) (a .t .l)
 read-left c = record { sfits = c .result .given }
 
 left : (c : First) → let a = c .before .before .args in Share (a .heights .now) (a .t .wl) (a .t .l)
@@ -41,7 +41,7 @@ left c =
     let s = c .before .before in
     share (s .args .heights .now) (s .args .t .wl) (s .args .t .l) (omega (arith, s .pre .1)) (s .pre .0 .left) (read-left c)
 
-read-apex : (c : Second) → let a = c .before .before .before .before .args in Stored (a .heights .now) (a .t .a)
+read-apex : (c : Second) → let a = c .before .before .before .before .args in Held (a .heights .now) (a .t .a)
 read-apex c = record { sfits = c .result2 .given }
 
 apex : (c : Second) → let a = c .before .before .before .before .args in Share (a .heights .now) (a .t .wa) (a .t .a)
@@ -49,7 +49,7 @@ apex c =
     let s = c .before .before .before .before in
     share (s .args .heights .now) (s .args .t .wa) (s .args .t .a) (omega (arith, s .pre .1)) (s .pre .0 .apex) (read-apex c)
 
-read-right : (c : Third) → let a = c .before .before .before .before .before .before .args in Stored (a .heights .now) (a .t .r)
+read-right : (c : Third) → let a = c .before .before .before .before .before .before .args in Held (a .heights .now) (a .t .r)
 read-right c = record { sfits = c .result3 .given }
 
 right : (c : Third) → let a = c .before .before .before .before .before .before .args in Share (a .heights .now) (a .t .wr) (a .t .r)
@@ -120,6 +120,11 @@ returns c =
     record {
       is = same;
       small = rw same (weighted-held (a .heights .now) (a .t) (p .0) (p .1) (p .2) (read-left e) (read-apex d) (read-right c));
+      stored = record {
+        left = of-16 (a .heights .now) (a .t .l) (p .0 .left) (read-left e);
+        apex = of-16 (a .heights .now) (a .t .a) (p .0 .apex) (read-apex d);
+        right = of-16 (a .heights .now) (a .t .r) (p .0 .right) (read-right c);
+      };
     }
 
 pub weighted-spec : {M : Type 1} → statement M
