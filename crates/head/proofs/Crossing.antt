@@ -10,9 +10,8 @@ use lib.Dec.{eqb}
 use lib.Ieee.{Float, ofBits}
 use lib.Ieee.Bits.{ofBits-toBits}
 use Rattle.grid.specs.Refusal.{accepted}
-use Rattle.survey.specs.Rule.{Sixteen}
 use Rattle.aim.specs.Quotient.{format, plusZero}
-use Rattle.aim.specs.Aimed.{Handed, refusal, Said, nowhere, surveyed, filled, says, said, ended, isFilled, heightAt}
+use Rattle.aim.specs.Aimed.{Handed, refusal, Said, nowhere, surveyed, filled, says, said, ended, isFilled, heightAt, CornersSixteen}
 use Rattle.aim.specs.declared.HeightAnswer.{HeightAnswer}
 use Rattle.aim.specs.declared.HeightAnswer.the-variants.{Surveyed, Filled, Refused}
 use Rattle.aim.proofs.Rule.{kind, follows-height}
@@ -66,7 +65,7 @@ spoken h = by (eqb (refusal h) accepted) (isFilled (h .m) (h .marks) (ended h .t
     by true false x = record { answer = Surveyed x; saying = refl }
     by false full x = record { answer = Refused (refusal h); saying = refl }
 
-pub follows-crossed : {h : Handed} {r : Crossed} → Sixteen (h .heights) → (r ≡ crossed (heightAt h)) ↔ FollowsCrossed h r
+pub follows-crossed : {h : Handed} {r : Crossed} → (refusal h ≡ accepted → CornersSixteen h) → (r ≡ crossed (heightAt h)) ↔ FollowsCrossed h r
 follows-crossed {h = h} {r = r} small = (there, back)
   where
     there : r ≡ crossed (heightAt h) → FollowsCrossed h r

@@ -1,15 +1,13 @@
 -- The contracts of C's calls, as the code states them, are the promises of the calls that they are named after, of what was handed over, in its order. A
 -- height's kind and bits are those of an answer that follows document 01's sentences, and read back they say what that answer says.
-use mathlib.Core.Path.{_≡_}
 use denote.Ref.{now}
-use Rattle.survey.specs.Rule.{Sixteen}
 use Rattle.selection.specs.Selected.{Selects, handed as surveying}
 use Rattle.selection.specs.declared.Selected.{Selected}
 use Rattle.mesh.specs.Meshed.{Meshes, handed as drawing}
 use Rattle.mesh.specs.declared.Meshed.{Meshed}
 use Rattle.strip.specs.Stripped.{Strips}
 use Rattle.strip.specs.declared.Stripped.{Stripped}
-use Rattle.aim.specs.Aimed.{planeAt, handed as asking}
+use Rattle.aim.specs.Aimed.{AnswersPlane, handed as asking}
 use Rattle.aim.specs.declared.PlaneAnswer.{PlaneAnswer}
 use Rattle.head.specs.Crossing.{FollowsCrossed}
 use Rattle.head.specs.declared.Crossed.{Crossed}
@@ -33,9 +31,9 @@ pub strip-promised : (k : _) (a : _) (r : Stripped) (o : _) → strip.Learnt k a
 strip-promised k a r o promise = promise
 
 pub plane-promised : (k : _) (a : _) (r : PlaneAnswer) (o : _) → plane.Learnt k a r o →
-    r ≡ planeAt (asking (now (a .0)) (now (a .1 .0)) (a .1 .1 .0) (a .1 .1 .1 .0) (a .1 .1 .1 .1 .0))
+    AnswersPlane (asking (now (a .0)) (now (a .1 .0)) (a .1 .1 .0) (a .1 .1 .1 .0) (a .1 .1 .1 .1 .0)) r
 plane-promised k a r o promise = promise
 
-pub height-promised : (k : _) (a : _) (r : Crossed) (o : _) → height.Learnt k a r o → Sixteen (now (a .1 .0)) →
+pub height-promised : (k : _) (a : _) (r : Crossed) (o : _) → height.Learnt k a r o →
     FollowsCrossed (asking (now (a .0)) (now (a .1 .0)) (a .1 .1 .0) (a .1 .1 .1 .0) (a .1 .1 .1 .1 .0)) r
-height-promised k a r o promise small = follows-crossed small .0 promise
+height-promised k a r o promise = follows-crossed (promise .sixteen) .0 (promise .answer)

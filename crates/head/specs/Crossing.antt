@@ -7,7 +7,7 @@ use lib.Dec.{eqb}
 use lib.Ieee.{Float, binary32, toBits, ofBits}
 use Rattle.grid.specs.Refusal.{accepted}
 use Rattle.aim.specs.Quotient.{format, plusZero}
-use Rattle.aim.specs.Aimed.{Origin, nowhere, surveyed, filled, Said, says, said, Handed}
+use Rattle.aim.specs.Aimed.{Origin, nowhere, surveyed, filled, Said, says, said, Handed, refusal, heightAt, CornersSixteen}
 use Rattle.aim.specs.Rule.{FollowsHeight}
 use Rattle.aim.specs.declared.HeightAnswer.{HeightAnswer}
 use Rattle.aim.specs.declared.HeightAnswer.the-variants.{Surveyed, Filled, Refused}
@@ -24,6 +24,11 @@ crossedBy filled refusal height = crossing 2 (toBits format height)
 
 abbrev pub crossed : Said → Crossed
 crossed s = crossedBy (s .origin) (s .refusal) (s .height)
+
+-- the promise of C's height: kind and bits of what the height says; and that the heights of an answer have 16 bits
+pub record Crosses (h : Handed) (r : Crossed) : Type 0 where
+  pub answer : r ≡ crossed (heightAt h)
+  pub sixteen : refusal h ≡ accepted → CornersSixteen h
 
 -- what C reads from kind and bits: a height is surveyed only where it says so
 abbrev pub read : Crossed → Said

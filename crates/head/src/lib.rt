@@ -4,12 +4,11 @@ use aim::PlaneAnswer;
 use mesh::Meshed;
 use selection::Selected;
 use strip::Stripped;
-ghost use mathlib.Core.Path.{_≡_};
 ghost use Rattle.selection.specs.Selected.{Selects, handed as surveying};
 ghost use Rattle.mesh.specs.Meshed.{Meshes, handed as drawing};
 ghost use Rattle.strip.specs.Stripped.{Strips};
-ghost use Rattle.aim.specs.Aimed.{heightAt, planeAt, handed as asking};
-ghost use Rattle.head.specs.Crossing.{crossed};
+ghost use Rattle.aim.specs.Aimed.{AnswersPlane, handed as asking};
+ghost use Rattle.head.specs.Crossing.{Crosses};
 
 // A height as it crosses to C. Kind 0 is a refusal, with its number as the bits; 1 a surveyed height and 2 a filled one, with the f32's bits.
 #[repr(C)]
@@ -59,7 +58,7 @@ pub extern "C" fn mosskirtle_height(
     x: u32,
     y: u32,
 ) -> Crossed
-    ensures { λ r. ⌜ r ≡ crossed (heightAt (asking (now (marks .entry)) (now (heights .entry)) m x y)) ⌝ }
+    ensures { λ r. ⌜ Crosses (asking (now (marks .entry)) (now (heights .entry)) m x y) r ⌝ }
 {
     let answer = aim::height(marks, heights, m, x, y);
     match answer {
@@ -86,7 +85,7 @@ pub extern "C" fn mosskirtle_plane(
     x: u32,
     y: u32,
 ) -> PlaneAnswer
-    ensures { λ r. ⌜ r ≡ planeAt (asking (now (marks .entry)) (now (heights .entry)) m x y) ⌝ }
+    ensures { λ r. ⌜ AnswersPlane (asking (now (marks .entry)) (now (heights .entry)) m x y) r ⌝ }
 {
     aim::plane(marks, heights, m, x, y)
 }

@@ -11,12 +11,18 @@ use Rattle.grid.specs.Inner.{Spread}
 use Rattle.grid.specs.declared.Grid.{Grid}
 use Rattle.grid.specs.declared.points.Point.{Point}
 use Rattle.survey.specs.Filled.{sample, heightOf, CornersSurveyed}
+use Rattle.survey.specs.Rule.{Sixteen}
 
 -- heights of a sound grid, perhaps not yet filled
 pub record Ready (g : Grid) (heights : List ℤ) : Type 0 where
   pub sound : Sound g
   pub long : length heights ≡ samples (g .m)
   pub corners : CornersSurveyed (g .m) heights
+
+-- copied, each of its samples having 16 bits
+pub record Copied (survey heights : List ℤ) : Type 0 where
+  pub same : heights ≡ survey
+  pub sixteen : Sixteen survey
 
 abbrev pub NoVoid : List ℤ → Type 0
 NoVoid heights = (i : ℕ) → i < length heights → isVoid (getD heights i void) ≡ false

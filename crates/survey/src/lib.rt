@@ -10,7 +10,8 @@ ghost use lib.ListN.{length};
 ghost use Prim.Native.Nat.{_/_, _<_};
 ghost use Rattle.grid.specs.Grid.{Sound, Inside, samples, point};
 ghost use Rattle.survey.specs.Filled.{floorMean, heightOf, filled, CornersSurveyed};
-ghost use Rattle.survey.specs.Inner.{Ready, Found, NoVoid};
+ghost use Rattle.survey.specs.Rule.{FilledFrom};
+ghost use Rattle.survey.specs.Inner.{Ready, Found, Copied, NoVoid};
 
 // Counted from the void mark no sum is below zero, so plain division is the floor.
 fn halved(sum: u32) -> u32
@@ -56,7 +57,7 @@ fn settle(g: Grid, i: usize, heights: &mut [i16])
 
 fn copy(survey: &[i16], heights: &mut [i16])
     requires { ⌜ length (now heights) ≡ length (now survey) ⌝ }
-    ensures { λ _. ⌜ now (heights .exit) ≡ now (survey .entry) ⌝ }
+    ensures { λ _. ⌜ Copied (now (survey .entry)) (now (heights .exit)) ⌝ }
 {
     let mut i = 0;
     while i < survey.len() {
@@ -95,7 +96,7 @@ fn fill_left(g: Grid, heights: &mut [i16])
 // A survey without voids, the common one, is only looked through.
 pub fn fill(survey: &[i16], g: Grid, heights: &mut [i16])
     requires { ⌜ Sound g × (length (now survey) ≡ samples (g .m)) × (length (now heights) ≡ samples (g .m)) × CornersSurveyed (g .m) (now survey) ⌝ }
-    ensures { λ _. ⌜ now (heights .exit) ≡ filled (g .m) (now (survey .entry)) ⌝ }
+    ensures { λ _. ⌜ FilledFrom (g .m) (now (survey .entry)) (now (heights .exit)) ⌝ }
 {
     copy(survey, heights);
     if has_void(heights) {

@@ -26,7 +26,7 @@ asked c = let s = c .before .before .args in handed (s .marks .now) (s .heights 
 
 -- the answer is the case that the code is in, so that case crosses as what was promised
 told : (c : Told) (a : HeightAnswer) → c .height .result ≡ a → said a ≡ heightAt (asked c)
-told c a e = rw e at (c .height .ensures)
+told c a e = rw e at (c .height .ensures .answer)
 
 crosses : (c : Told) (a : HeightAnswer) → c .height .result ≡ a → crossed (said a) ≡ crossed (heightAt (asked c))
 crosses c a e = ap crossed (told c a e)
@@ -54,13 +54,16 @@ enum-known-answer-3 : tie.Need-enum-known-answer-3
 enum-known-answer-3 c = search needs
 
 returns : tie.Need-returns
-returns c = crosses (c .before .before .before) _ (c .before .answer .given .1)
+returns c =
+    let t = c .before .before .before in record { answer = crosses t _ (c .before .answer .given .1); sixteen = t .height .ensures .sixteen }
 
 returns-2 : tie.Need-returns-2
-returns-2 c = crosses (c .before .before .before) _ (c .before .answer2 .given .1)
+returns-2 c =
+    let t = c .before .before .before in record { answer = crosses t _ (c .before .answer2 .given .1); sixteen = t .height .ensures .sixteen }
 
 returns-3 : tie.Need-returns-3
-returns-3 c = crosses (c .before .before .before) _ (c .before .answer3 .given .1)
+returns-3 c =
+    let t = c .before .before .before in record { answer = crosses t _ (c .before .answer3 .given .1); sixteen = t .height .ensures .sixteen }
 
 pub mosskirtle-height-spec : {M : Type 1} → statement M
 mosskirtle-height-spec =

@@ -1,4 +1,4 @@
--- `survey::copy` meets its contract. The invariant: below i the two agree, and the length stays.
+-- `survey::copy` meets its contract. The invariant: below i the two agree, what was read there has 16 bits, and the length stays.
 use mathlib.Core.Path.{_≡_, refl, sym, _∙_}
 use mathlib.Core.List.{List, [], _∷_, _++_}
 use Prim.Native.Nat.{ℕ, _+_, _-_, _≤_, _<_}
@@ -7,13 +7,23 @@ use native.Mathlib.Numerals.{add-one}
 use lib.ListN.{length, getD, take, set, length-set}
 use lib.Seq.{take-suc, take-suc-set, take-all}
 use lib.IntN.{ℤ, pos}
+use mir.Syntax.{w16}
+use mir.Val.{SFits}
 use mir.Facts.{toZ-ofZ}
+use borrow.Author.Count.{below-more}
 use borrow.Author.Needs.{needs}
+use Rattle.grid.specs.Grid.{void}
+use Rattle.grid.proofs.OnGrid.{any-default}
 use Rattle.survey.proofs.copy.Statement.{statement}
 use Rattle.survey.proofs.copy.Tie as tie
 
+-- what the code holds at a place has 16 bits
+abbrev Held : List ℤ → ℕ → Type 0
+Held survey k = SFits w16 (getD survey k (pos 0))
+
 abbrev Inv-loop : tie.InvT-loop
-Inv-loop survey heights₀ i₀ heights i = (i ≤ length survey) × (length heights ≡ length heights₀) × (take i heights ≡ take i survey)
+Inv-loop survey heights₀ i₀ heights i =
+    (i ≤ length survey) × (length heights ≡ length heights₀) × (take i heights ≡ take i survey) × ((k : ℕ) → k < i → Held survey k)
 
 abbrev μ-loop : tie.MeasureT-loop
 μ-loop survey heights₀ i₀ heights i = length survey - i
@@ -26,7 +36,7 @@ agree survey heights i z l n e t =
     (take-suc-set heights i z (omega arith) ∙ (λ j. t j ++ (e j ∷ [])) ∙ sym (take-suc survey i (pos 0) l))
 
 loop-holds : tie.Need-loop-holds Inv-loop μ-loop
-loop-holds c = (omega arith, refl, refl)
+loop-holds c = (omega arith, refl, refl, λ k l. absurd (omega arith))
 
 mul-heights : tie.Need-mul-heights Inv-loop μ-loop
 mul-heights c = search needs
@@ -48,12 +58,14 @@ loop-less c = omega arith
 
 loop-again : tie.Need-loop-again Inv-loop μ-loop
 loop-again c =
-    let at = c .before .before in (
+    let at = c .before .before in
+    let held : Held (at .before .args .survey .now) (at .loop .i) = record { sfits = c .heights .given } in (
       omega arith,
       simp length-set (at .loop .inv .1),
       agree (at .before .args .survey .now) (at .loop .heights) (at .loop .i) _ (c .before .loop-test .taken) (at .loop .inv .1 ∙ at .before .pre)
-          (toZ-ofZ (record { sfits = c .heights .given }))
+          (toZ-ofZ held)
           (at .loop .inv .2),
+      below-more (Held (at .before .args .survey .now)) (at .loop .i) (at .loop .inv .3) held,
     )
 
 same-length : tie.Need-same-length Inv-loop μ-loop
@@ -64,7 +76,10 @@ returns c =
     let at = c .before in
     let survey = at .before .args .survey .now in
     let n : at .loop .i ≡ length survey = omega arith in
-    sym (take-all (at .loop .i) (at .loop .heights) (omega arith)) ∙ at .loop .inv .2 ∙ take-all (at .loop .i) survey (omega arith)
+    record {
+      same = sym (take-all (at .loop .i) (at .loop .heights) (omega arith)) ∙ at .loop .inv .2 ∙ take-all (at .loop .i) survey (omega arith);
+      sixteen = λ k l. rw (any-default survey k (pos 0) void l) at (at .loop .inv .3 k (rw n l));
+    }
 
 pub copy-spec : {M : Type 1} → statement M
 copy-spec =

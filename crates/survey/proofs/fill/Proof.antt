@@ -26,12 +26,12 @@ has-void-requires c κs = search needs
 
 fill-spacings-requires : tie.Need-fill-spacings-requires
 fill-spacings-requires c κs =
-    let s = c .before .before .before .before .before .before .before in copied (c .before .before .before .before .before .copy .ensures) (s .pre .0) (s .pre .1) (s .pre .3)
+    let s = c .before .before .before .before .before .before .before in copied (c .before .before .before .before .before .copy .ensures .same) (s .pre .0) (s .pre .1) (s .pre .3)
 
 fill-left-requires : tie.Need-fill-left-requires
 fill-left-requires c κs =
     let s = c .before .before .before .before .before .before .before .before .before .before in
-    ready-on (copied (c .before .before .before .before .before .before .before .before .copy .ensures) (s .pre .0) (s .pre .1) (s .pre .3)) (c .before .before .fill-spacings .ensures)
+    ready-on (copied (c .before .before .before .before .before .before .before .before .copy .ensures .same) (s .pre .0) (s .pre .1) (s .pre .3)) (c .before .before .fill-spacings .ensures)
 
 same-length : tie.Need-same-length
 same-length c = search needs
@@ -39,7 +39,11 @@ same-length c = search needs
 returns : tie.Need-returns
 returns c =
     let s = c .before .before .before .before .before .before .before .before .before .before .before .before in
-    c .before .fill-left .ensures ∙ partly-filled (s .args .g .m) _ _ (c .before .before .before .before .fill-spacings .ensures) ∙ ap (filled (s .args .g .m)) (c .before .before .before .before .before .before .before .before .before .before .copy .ensures)
+    let copied = c .before .before .before .before .before .before .before .before .before .before .copy .ensures in
+    record {
+      is = c .before .fill-left .ensures ∙ partly-filled (s .args .g .m) _ _ (c .before .before .before .before .fill-spacings .ensures) ∙ ap (filled (s .args .g .m)) (copied .same);
+      sixteen = copied .sixteen;
+    }
 
 same-length-2 : tie.Need-same-length-2
 same-length-2 c = search needs
@@ -47,9 +51,10 @@ same-length-2 c = search needs
 returns-2 : tie.Need-returns-2
 returns-2 c =
     let s = c .before .before .before .before .before .before in
-    let same = c .before .before .before .before .copy .ensures in
+    let copied = c .before .before .before .before .copy .ensures in
+    let same = copied .same in
     let none = c .before .has-void .ensures (c .if1 .left) in
-    same ∙ none-left (s .args .g .m) _ _ (s .pre .1) (partly-none _ _) (subst NoVoid same none)
+    record { is = same ∙ none-left (s .args .g .m) _ _ (s .pre .1) (partly-none _ _) (subst NoVoid same none); sixteen = copied .sixteen }
 
 pub fill-spec : {M : Type 1} → statement M
 fill-spec =
