@@ -1,7 +1,7 @@
 -- The contracts of C's calls, as the code states them, are the promises of the calls that they are named after, of what was handed over, in its order. A
 -- height's kind and bits are those of an answer that follows document 01's sentences, and read back they say what that answer says.
 use denote.Ref.{now}
-use Rattle.selection.specs.Selected.{Selects, handed as surveying}
+use Rattle.selection.specs.Selected.{AnswersSelect, handed as surveying}
 use Rattle.selection.specs.declared.Selected.{Selected}
 use Rattle.mesh.specs.Meshed.{Meshes, handed as drawing}
 use Rattle.mesh.specs.declared.Meshed.{Meshed}
@@ -19,7 +19,7 @@ use Rattle.head.proofs.mosskirtle_height.Reads as height
 use Rattle.head.proofs.mosskirtle_plane.Reads as plane
 
 pub select-promised : (k : _) (a : _) (r : Selected) (o : _) → select.Learnt k a r o →
-    Selects (surveying (now (a .0)) (a .1 .0) (a .1 .1 .0) (now (a .1 .1 .1 .0)) (now (a .1 .1 .1 .1 .0))) r (now (o .1 .1 .1 .0)) (now (o .1 .1 .1 .1 .0))
+    AnswersSelect (surveying (now (a .0)) (a .1 .0) (a .1 .1 .0) (now (a .1 .1 .1 .0)) (now (a .1 .1 .1 .1 .0))) r (now (o .1 .1 .1 .0)) (now (o .1 .1 .1 .1 .0))
 select-promised k a r o promise = promise
 
 pub triangles-promised : (k : _) (a : _) (r : Meshed) (o : _) → triangles.Learnt k a r o →

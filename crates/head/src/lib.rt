@@ -4,7 +4,7 @@ use aim::PlaneAnswer;
 use mesh::Meshed;
 use selection::Selected;
 use strip::Stripped;
-ghost use Rattle.selection.specs.Selected.{Selects, handed as surveying};
+ghost use Rattle.selection.specs.Selected.{AnswersSelect, handed as surveying};
 ghost use Rattle.mesh.specs.Meshed.{Meshes, handed as drawing};
 ghost use Rattle.strip.specs.Stripped.{Strips};
 ghost use Rattle.aim.specs.Aimed.{AnswersPlane, handed as asking};
@@ -31,7 +31,7 @@ pub extern "C" fn mosskirtle_select(
     marks: &mut [u8],
     heights: &mut [i16],
 ) -> Selected
-    ensures { λ r. ⌜ Selects (surveying (now (survey .entry)) m tolerance (now (marks .entry)) (now (heights .entry))) r (now (marks .exit)) (now (heights .exit)) ⌝ }
+    ensures { λ r. ⌜ AnswersSelect (surveying (now (survey .entry)) m tolerance (now (marks .entry)) (now (heights .entry))) r (now (marks .exit)) (now (heights .exit)) ⌝ }
 {
     selection::select(survey, m, tolerance, marks, heights)
 }

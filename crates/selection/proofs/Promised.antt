@@ -1,10 +1,10 @@
 -- The contract of select, as the code states it, ties the answer and both buffers at exit to what was handed over, in its order: the survey, the size,
 -- the tolerance, and the marks and the heights as they were.
 use denote.Ref.{now}
-use Rattle.selection.specs.Selected.{handed, Selects}
+use Rattle.selection.specs.Selected.{handed, AnswersSelect}
 use Rattle.selection.specs.declared.Selected.{Selected}
 use Rattle.selection.proofs.select.Reads as reads
 
 pub promised : (k : _) (a : _) (r : Selected) (o : _) → reads.Learnt k a r o →
-    Selects (handed (now (a .0)) (a .1 .0) (a .1 .1 .0) (now (a .1 .1 .1 .0)) (now (a .1 .1 .1 .1 .0))) r (now (o .1 .1 .1 .0)) (now (o .1 .1 .1 .1 .0))
+    AnswersSelect (handed (now (a .0)) (a .1 .0) (a .1 .1 .0) (now (a .1 .1 .1 .0)) (now (a .1 .1 .1 .1 .0))) r (now (o .1 .1 .1 .0)) (now (o .1 .1 .1 .1 .0))
 promised k a r o promise = promise

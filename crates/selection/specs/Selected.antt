@@ -11,6 +11,7 @@ use Rattle.grid.specs.Grid.{largest, side, samples, at, isVoid}
 use Rattle.grid.specs.Refusal.{accepted, sizeAbove, wrongLength, voidCorner, toleranceAbove}
 use Rattle.grid.specs.declared.points.Point.{Point}
 use Rattle.survey.specs.Filled.{sample, filled}
+use Rattle.survey.specs.Rule.{Sixteen}
 use Rattle.selection.specs.Error.{over}
 use Rattle.selection.specs.Kept.{some}
 use Rattle.selection.specs.Marks.{marksOf, count, markedOwn, markedDependence}
@@ -76,8 +77,13 @@ marksAfter h = cond (eqb (refusal h) accepted) (marksBy h) (h .marks)
 unfoldable pub heightsAfter : Handed → List ℤ
 heightsAfter h = cond (eqb (refusal h) accepted) (filled (h .m) (h .survey)) (h .heights)
 
--- the promise: the answer, the marks at exit and the heights at exit
+-- the answer, the marks at exit and the heights at exit
 pub record Selects (h : Handed) (r : Selected) (marks′ : List ℕ) (heights′ : List ℤ) : Type 0 where
   pub answer : r ≡ answerOf h
   pub marks : marks′ ≡ marksAfter h
   pub heights : heights′ ≡ heightsAfter h
+
+-- the promise of select: the above; and that each sample of an accepted survey is a number of 16 bits
+pub record AnswersSelect (h : Handed) (r : Selected) (marks′ : List ℕ) (heights′ : List ℤ) : Type 0 where
+  pub selects : Selects h r marks′ heights′
+  pub sixteen : r .refusal ≡ accepted → Sixteen (h .survey)

@@ -14,7 +14,7 @@ ghost use lib.Dec.{eqb};
 ghost use lib.ListN.{length};
 ghost use Rattle.grid.specs.Grid.{Sound, Inside, samples, at, isVoid};
 ghost use Rattle.survey.specs.Filled.{sample};
-ghost use Rattle.selection.specs.Selected.{cornerVoid, handed, refusal, Selects};
+ghost use Rattle.selection.specs.Selected.{cornerVoid, handed, refusal, AnswersSelect};
 
 #[repr(C)]
 pub struct Selected {
@@ -91,7 +91,7 @@ pub fn select(
     marks: &mut [u8],
     heights: &mut [i16],
 ) -> Selected
-    ensures { λ r. ⌜ Selects (handed (now (survey .entry)) m tolerance (now (marks .entry)) (now (heights .entry))) r (now (marks .exit)) (now (heights .exit)) ⌝ }
+    ensures { λ r. ⌜ AnswersSelect (handed (now (survey .entry)) m tolerance (now (marks .entry)) (now (heights .entry))) r (now (marks .exit)) (now (heights .exit)) ⌝ }
 {
     let refusal = refusal_of(survey, m, tolerance, marks, heights);
     if refusal != Refusal::ACCEPTED {

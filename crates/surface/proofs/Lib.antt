@@ -12,3 +12,4 @@ pub mod Areas
 pub mod Parts
 pub mod OneMesh
 pub mod Surface
+pub mod Calls

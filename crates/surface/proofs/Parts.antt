@@ -13,8 +13,9 @@ use Rattle.grid.specs.Grid.{Inside, Height, at}
 use Rattle.grid.specs.Refusal.{accepted}
 use Rattle.grid.specs.declared.points.Point.{Point}
 use Rattle.survey.specs.Filled.{sample}
+use Rattle.survey.specs.Rule.{Sixteen}
 use Rattle.survey.proofs.Rule.{fills-only, filled-height}
-use Rattle.selection.specs.Selected.{Handed as Surveying}
+use Rattle.selection.specs.Selected.{Handed as Surveying, Selects}
 use Rattle.selection.specs.declared.Selected.{Selected}
 use Rattle.selection.proofs.Accepted.{Accepted, accepted-handed, turned-only}
 use Rattle.selection.proofs.Rule.{turned-down, selection}
@@ -47,6 +48,12 @@ use Rattle.surface.proofs.Areas.{areas}
 
 module _ {s : Surveying} {a : Selected} {marks : List ℕ} {heights : List ℤ} {places places′ : List ℕ} {r : Meshed}
     (c : Called s a marks heights places r places′) where
+  selects : Selects s a marks heights
+  selects = c .selects .selects
+
+  sixteen : Sixteen (s .survey)
+  sixteen = c .selects .sixteen (c .accepts)
+
   abbrev kept : Point → Bool
   kept = keptBy (s .m) marks
 
@@ -54,23 +61,23 @@ module _ {s : Surveying} {a : Selected} {marks : List ℕ} {heights : List ℤ} 
   ts = mesh (s .m) kept
 
   meshed : r .refusal ≡ accepted
-  meshed = mesh-rule.selected (c .selects) (c .accepts) (c .meshes) .1 (c .room)
+  meshed = mesh-rule.selected selects (c .accepts) (c .meshes) .1 (c .room)
 
   reading : AsRead (drawing marks (s .m) places) r places′
   reading = as-read (c .meshes) meshed
 
   legs : Restricted (s .m) kept
-  legs = restricted (selection (c .selects) (c .accepts) .least .closed)
+  legs = restricted (selection selects (c .accepts) .least .closed)
 
   taken : Accepted s
-  taken = accepted-handed s (sym (turned-only s (turned-down (c .selects))) ∙ c .accepts)
+  taken = accepted-handed s (sym (turned-only s (turned-down selects)) ∙ c .accepts)
 
   -- every height written is a height
   known : (p : Point) → Inside (s .m) p → Height (sample (s .m) heights p)
   known p i =
       let t = taken in
-      let is = fills-only (s .m) (s .survey) (t .corners) heights (selection (c .selects) (c .accepts) .fills) in
-      rw is (filled-height (s .m) (s .survey) (t .corners) (t .lengths .survey) (c .sixteen) p i)
+      let is = fills-only (s .m) (s .survey) (t .corners) heights (selection selects (c .accepts) .fills) in
+      rw is (filled-height (s .m) (s .survey) (t .corners) (t .lengths .survey) sixteen p i)
 
   module _ (x y : ℕ) (inside : OfSquare (s .m) (at x y)) where
     abbrev q : Point
@@ -80,7 +87,7 @@ module _ {s : Surveying} {a : Selected} {marks : List ℕ} {heights : List ℤ} 
     asked = handed marks heights (s .m) x y
 
     ok : refusal asked ≡ accepted
-    ok = selected (c .sixteen) (c .selects) (c .accepts) x y (inside .east) (inside .north)
+    ok = selected sixteen selects (c .accepts) x y (inside .east) (inside .north)
 
     level : (h : HeightAnswer) → said h ≡ heightAt asked → (p : PlaneAnswer) → p ≡ planeAt asked → p .ground .height ≡ said h .height
     unfolding groundIn
@@ -123,8 +130,8 @@ module _ {s : Surveying} {a : Selected} {marks : List ℕ} {heights : List ℤ} 
 
     surface-at : SurfaceAt asked places′ (r .triangles)
     surface-at = record {
-      heightAccepts = height-selected (c .sixteen) (c .selects) (c .accepts) x y (inside .east) (inside .north);
-      planeAccepts = plane-selected (c .sixteen) (c .selects) (c .accepts) x y (inside .east) (inside .north);
+      heightAccepts = height-selected sixteen selects (c .accepts) x y (inside .east) (inside .north);
+      planeAccepts = plane-selected sixteen selects (c .accepts) x y (inside .east) (inside .north);
       level = level;
       covered = covered;
       agrees = λ h e i l inner. agreed i l inner h e;

@@ -14,8 +14,7 @@ use Rattle.grid.specs.Grid.{side, inQuarters}
 use Rattle.grid.specs.Refusal.{accepted}
 use Rattle.grid.specs.Turn.{onward, backward, CounterClockwise}
 use Rattle.grid.specs.declared.points.Point.{Point}
-use Rattle.survey.specs.Rule.{Sixteen}
-use Rattle.selection.specs.Selected.{Handed as Surveying, Selects}
+use Rattle.selection.specs.Selected.{Handed as Surveying, AnswersSelect}
 use Rattle.selection.specs.declared.Selected.{Selected}
 use Rattle.mesh.specs.Triangles.{Three}
 use Rattle.mesh.specs.Meshed.{handed as drawing, entriesEach, needed, Meshes}
@@ -31,9 +30,7 @@ use Rattle.aim.specs.declared.PlaneAnswer.{PlaneAnswer}
 -- The calls: a selection that accepts, whatever its buffers held; then triangles, on the marks that it wrote, with room enough: three entries for each
 -- triangle, by document 01's count, which is their number, since the set is closed. (6N² entries are always enough: `room-enough` in mesh.)
 pub record Called (s : Surveying) (a : Selected) (marks : List ℕ) (heights : List ℤ) (places : List ℕ) (r : Meshed) (places′ : List ℕ) : Type 0 where
-  -- samples have 16 bits, as those of a lent `&[i16]` do
-  pub sixteen : Sixteen (s .survey)
-  pub selects : Selects s a marks heights
+  pub selects : AnswersSelect s a marks heights
   pub accepts : a .refusal ≡ accepted
   pub room : entriesEach * needed (drawing marks (s .m) places) ≤ length places
   pub meshes : Meshes (drawing marks (s .m) places) r places′

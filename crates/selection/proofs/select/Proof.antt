@@ -64,8 +64,12 @@ same-length-2 c = search needs
 returns : tie.Need-returns
 returns c =
     let h = asked (c .before) in
-    refused-only h (rw (c .before .refusal-of .ensures) (turned h)) (c .if1 .taken)
-    (record { own = refl; dependent = refl; voids = refl; marks = refl; heights = refl })
+    record {
+      selects =
+          refused-only h (rw (c .before .refusal-of .ensures) (turned h)) (c .if1 .taken)
+          (record { own = refl; dependent = refl; voids = refl; marks = refl; heights = refl });
+      sixteen = λ ok. absurd (c .if1 .taken ok);
+    }
 
 grid-of-requires : tie.Need-grid-of-requires
 grid-of-requires c κs = taken c .small
@@ -82,7 +86,7 @@ mark-all-requires : tie.Need-mark-all-requires
 mark-all-requires c κs =
     let g = c .before .before .before .before .before .grid-of .ensures in
     let a = taken (c .before .before .before .before .before .before) in
-    rw g (record { sound = sound (a .small) refl; near = omega (arith, a .tolerance); long = a .lengths .survey; filled = rw g at (c .before .before .before .fill .ensures) }, a .lengths .marks)
+    rw g (record { sound = sound (a .small) refl; near = omega (arith, a .tolerance); long = a .lengths .survey; filled = rw g at (c .before .before .before .fill .ensures .is) }, a .lengths .marks)
 
 count-requires : tie.Need-count-requires
 count-requires c κs =
@@ -101,8 +105,11 @@ returns-2 c =
     let passed = c .before .before .before .before .before .before .before .before .before .before .before in
     let g = c .before .before .before .before .before .before .before .before .before .before .grid-of .ensures in
     let marks = rw g at (c .before .before .before .before .mark-all .ensures) in
-    let heights = rw g at (c .before .before .before .before .before .before .before .before .fill .ensures) in
-    completed (asked (passed .before)) (none passed) marks heights (c .count .ensures)
+    let fill = c .before .before .before .before .before .before .before .before .fill .ensures in
+    record {
+      selects = completed (asked (passed .before)) (none passed) marks (rw g at (fill .is)) (c .count .ensures);
+      sixteen = λ ok. fill .sixteen;
+    }
 
 pub select-spec : {M : Type 1} → statement M
 select-spec =
