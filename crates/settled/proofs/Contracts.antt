@@ -29,7 +29,7 @@ use Rattle.settled.proofs.Unique.{no-second}
 
 pub select-once : (k : _) (a : _) (r r′ : Selected) (o o′ : _) → select.Learnt k a r o → select.Learnt k a r′ o′ →
     SameSelection r r′ (now (o .1 .1 .1 .0)) (now (o′ .1 .1 .1 .0)) (now (o .1 .1 .1 .1 .0)) (now (o′ .1 .1 .1 .1 .0))
-select-once k a r r′ o o′ p q = no-second .select _ r r′ _ _ _ _ p q
+select-once k a r r′ o o′ p q = no-second .select _ r r′ _ _ _ _ (p .selects) (q .selects)
 
 pub triangles-once : (k : _) (a : _) (r r′ : Meshed) (o o′ : _) → triangles.Learnt k a r o → triangles.Learnt k a r′ o′ →
     SameTriangles r r′ (now (o .1 .1 .0)) (now (o′ .1 .1 .0))
@@ -40,10 +40,10 @@ pub strip-once : (k : _) (a : _) (r r′ : Stripped) (o o′ : _) → strip.Lear
 strip-once k a r r′ o o′ p q = no-second .strip _ r r′ _ _ p q
 
 pub height-once : (k : _) (a : _) (r r′ : HeightAnswer) (o o′ : _) → height.Learnt k a r o → height.Learnt k a r′ o′ → r ≡ r′
-height-once k a r r′ o o′ p q = no-second .height _ r r′ p q
+height-once k a r r′ o o′ p q = no-second .height _ r r′ (p .answer) (q .answer)
 
 pub plane-once : (k : _) (a : _) (r r′ : PlaneAnswer) (o o′ : _) → plane.Learnt k a r o → plane.Learnt k a r′ o′ → r ≡ r′
-plane-once k a r r′ o o′ p q = no-second .plane _ r r′ p q
+plane-once k a r r′ o o′ p q = no-second .plane _ r r′ (p .answer) (q .answer)
 
 pub read-once : (k : _) (a : _) (r r′ : Frame) (o o′ : _) → read.Learnt k a r o → read.Learnt k a r′ o′ → r ≡ r′
 read-once k a r r′ o o′ p q = no-second .read _ r r′ p q
@@ -58,7 +58,7 @@ size-once k a r r′ o o′ p q = no-second .size (a .0) r r′ p q
 -- C's calls
 pub c-select-once : (k : _) (a : _) (r r′ : Selected) (o o′ : _) → c-select.Learnt k a r o → c-select.Learnt k a r′ o′ →
     SameSelection r r′ (now (o .1 .1 .1 .0)) (now (o′ .1 .1 .1 .0)) (now (o .1 .1 .1 .1 .0)) (now (o′ .1 .1 .1 .1 .0))
-c-select-once k a r r′ o o′ p q = no-second .select _ r r′ _ _ _ _ p q
+c-select-once k a r r′ o o′ p q = no-second .select _ r r′ _ _ _ _ (p .selects) (q .selects)
 
 pub c-triangles-once : (k : _) (a : _) (r r′ : Meshed) (o o′ : _) → c-triangles.Learnt k a r o → c-triangles.Learnt k a r′ o′ →
     SameTriangles r r′ (now (o .1 .1 .0)) (now (o′ .1 .1 .0))
@@ -69,7 +69,7 @@ pub c-strip-once : (k : _) (a : _) (r r′ : Stripped) (o o′ : _) → c-strip.
 c-strip-once k a r r′ o o′ p q = no-second .strip _ r r′ _ _ p q
 
 pub c-height-once : (k : _) (a : _) (r r′ : Crossed) (o o′ : _) → c-height.Learnt k a r o → c-height.Learnt k a r′ o′ → r ≡ r′
-c-height-once k a r r′ o o′ p q = no-second .crossing _ r r′ p q
+c-height-once k a r r′ o o′ p q = no-second .crossing _ r r′ (p .answer) (q .answer)
 
 pub c-plane-once : (k : _) (a : _) (r r′ : PlaneAnswer) (o o′ : _) → c-plane.Learnt k a r o → c-plane.Learnt k a r′ o′ → r ≡ r′
-c-plane-once k a r r′ o o′ p q = no-second .plane _ r r′ p q
+c-plane-once k a r r′ o o′ p q = no-second .plane _ r r′ (p .answer) (q .answer)

@@ -20,11 +20,14 @@ use Rattle.mesh.specs.Triangles.{points}
 use Rattle.mesh.specs.Closed.{keptBy}
 use Rattle.mesh.specs.Meshed.{Handed as Drawing, handed as drawing, Meshes}
 use Rattle.mesh.specs.declared.Meshed.{Meshed}
+use Rattle.strip.specs.Stripped.{Strips}
+use Rattle.strip.specs.declared.Stripped.{Stripped}
 use Rattle.aim.specs.Quotient.{format, Exactly}
 use Rattle.aim.specs.Aimed.{Handed as Asking, handed as asking, said, heightAt, noGround, planeAt}
 use Rattle.aim.specs.declared.HeightAnswer.the-variants.{Surveyed, Filled, Refused}
 use Rattle.aim.specs.declared.HeightAnswer.{HeightAnswer}
 use Rattle.aim.specs.declared.PlaneAnswer.{PlaneAnswer}
+use Rattle.surface.specs.Surface.{OneSurface}
 
 -- ---- the surveys, row by row from y = 0
 
@@ -90,6 +93,10 @@ selected number own dependent voids = record { refusal = number; own = own; depe
 -- triangles: their number
 abbrev pub meshed : ℕ → ℕ → Meshed
 meshed number n = record { refusal = number; triangles = n }
+
+-- strip: its number of places
+abbrev pub stripped : ℕ → ℕ → Stripped
+stripped number n = record { refusal = number; places = n }
 
 -- a float is z / d exactly, and has these bits
 pub record FloatIs (z : ℤ) (d word : ℕ) (x : Float) : Type 0 where
@@ -204,6 +211,7 @@ pub record Settled : Type 0 where
   pub eleven-selection : (survey : List ℤ) (t : ℕ) (marks : List ℕ) (heights : List ℤ) →
       Selects (surveying survey 8 t marks heights) (selected 1 0 0 0) marks heights
   pub eleven-triangles : (marks places : List ℕ) → Meshes (drawing marks 8 places) (meshed 1 0) places
+  pub eleven-strip : (marks places : List ℕ) → Strips (drawing marks 8 places) (stripped 1 0) places
   pub eleven-height : (marks : List ℕ) (heights : List ℤ) (x y : ℕ) → said (Refused 1) ≡ heightAt (asking marks heights 8 x y)
   pub eleven-plane : (marks : List ℕ) (heights : List ℤ) (x y : ℕ) → planeRefused 1 ≡ planeAt (asking marks heights 8 x y)
   -- 12. Q's marks with the middle 0: refused 7. Q's marks with 14 entries of room: refused 8, need 5; with 15: written.
@@ -220,3 +228,11 @@ pub record Settled : Type 0 where
       6 ∷ 4 ∷ 8 ∷
       0 ∷ 4 ∷ 6 ∷
       9 ∷ 9 ∷ 9 ∷ [])
+  -- Demand 3, of Q: its marks, its heights and its five triangles are one surface.
+  pub surface : OneSurface 1
+      (3 ∷ 1 ∷ 3 ∷
+      0 ∷ 2 ∷ 0 ∷
+      3 ∷ 0 ∷ 3 ∷ [])
+      gridQ
+      (meshed 0 5)
+      (0 ∷ 1 ∷ 4 ∷ 4 ∷ 1 ∷ 2 ∷ 8 ∷ 4 ∷ 2 ∷ 6 ∷ 4 ∷ 8 ∷ 0 ∷ 4 ∷ 6 ∷ [])

@@ -27,7 +27,7 @@ returns c =
     let told = c .before .before .before .before .before .before in
     let read = told .before .before .before .before .before in
     let s = read .before .before .before .before .before in
-    refused-in (s .pre .0) (read .heights .ensures) (told .select .ensures) _ (s .pre .1) (c .before .if1 .taken) (c .refused .ensures)
+    refused-in (s .pre .0) (read .heights .ensures) (told .select .ensures .selects) _ (s .pre .1) (c .before .if1 .taken) (c .refused .ensures)
 
 triangles-requires : tie.Need-triangles-requires
 triangles-requires c κs = search needs
@@ -50,7 +50,7 @@ returns-2 c =
     let told = passed .before .before .before .before .before in
     let read = told .before .before .before .before .before in
     let s = read .before .before .before .before .before in
-    meshed-in (s .pre .0) (read .heights .ensures) (told .select .ensures) (passed .if1 .left) _ (s .pre .1) (c .before .before .triangles .ensures)
+    meshed-in (s .pre .0) (read .heights .ensures) (told .select .ensures .selects) (passed .if1 .left) _ (s .pre .1) (c .before .before .triangles .ensures)
 
 pub mesh-in-spec : {M : Type 1} → statement M
 mesh-in-spec =
