@@ -1,8 +1,13 @@
 -- No second answer, of the contracts as the code states them: any two outcomes that meet the contract of a public call, as the checker has it, for the same arguments are the
 -- same, the answer and every lent buffer at exit.
-use mathlib.Core.Path.{_≡_}
+use mathlib.Core.Path.{_≡_, sym, _∙_}
+use mathlib.Core.Bool.{Bool}
 use Prim.Native.Nat.{ℕ}
+use lib.IntN.{ℤ}
 use denote.Ref.{now}
+use Rattle.grid.specs.declared.Grid.{Grid}
+use Rattle.grid.specs.declared.points.Point.{Point}
+use Rattle.grid.specs.declared.points.Site.{Site}
 use Rattle.grid.specs.declared.sizes.SizeAnswer.{SizeAnswer}
 use Rattle.grid.proofs.sizes.size_of.Reads as size-of
 use Rattle.selection.specs.declared.Selected.{Selected}
@@ -24,6 +29,23 @@ use Rattle.head.proofs.mosskirtle_plane.Reads as c-plane
 use Rattle.frame.specs.declared.Frame.{Frame}
 use Rattle.frame.proofs.read.Reads as read
 use Rattle.frame.proofs.heights.Reads as heights
+use Rattle.grid.proofs.sizes.grid_of.Reads as grid-of
+use Rattle.grid.proofs.Grid.place.Reads as place
+use Rattle.grid.proofs.Grid.point.Reads as point
+use Rattle.grid.proofs.Grid.midpoint.Reads as midpoint
+use Rattle.grid.proofs.Grid.in_quarters.Reads as in-quarters
+use Rattle.grid.proofs.Grid.is_void.Reads as is-void
+use Rattle.grid.proofs.Grid.raised.Reads as raised
+use Rattle.grid.proofs.Grid.lowered.Reads as lowered
+use Rattle.grid.proofs.marks.good.Reads as good
+use Rattle.grid.proofs.marks.kept.Reads as kept
+use Rattle.grid.proofs.marks.keeps.Reads as keeps
+use Rattle.grid.proofs.marks.filled.Reads as filled
+use Rattle.grid.proofs.points.site_of.Reads as site-of
+use Rattle.grid.proofs.points.reach_of.Reads as reach-of
+use Rattle.mesh.proofs.good.corners_good.Reads as corners-good
+use Rattle.mesh.proofs.cut.is_cut.Reads as is-cut
+use Rattle.survey.proofs.fill.Reads as fill
 use Rattle.settled.specs.Unique.{SameSelection, SameTriangles, SameStrip, SameSurvey}
 use Rattle.settled.proofs.Unique.{no-second}
 
@@ -73,3 +95,58 @@ c-height-once k a r r′ o o′ p q = no-second .crossing _ r r′ (p .answer) (
 
 pub c-plane-once : (k : _) (a : _) (r r′ : PlaneAnswer) (o o′ : _) → c-plane.Learnt k a r o → c-plane.Learnt k a r′ o′ → r ≡ r′
 c-plane-once k a r r′ o o′ p q = no-second .plane _ r r′ (p .answer) (q .answer)
+
+-- The functions that one crate calls of another: all promise equations, so two results are equal to the same third.
+same : {A : Type 0} {x y z : A} → x ≡ z → y ≡ z → x ≡ y
+same p q = p ∙ sym q
+
+pub fill-once : (k : _) (a : _) (r r′ : _) (o o′ : _) → fill.Learnt k a r o → fill.Learnt k a r′ o′ → now (o .1 .1 .0) ≡ now (o′ .1 .1 .0)
+fill-once k a r r′ o o′ p q = same (p .is) (q .is)
+
+pub grid-of-once : (k : _) (a : _) (r r′ : Grid) (o o′ : _) → grid-of.Learnt k a r o → grid-of.Learnt k a r′ o′ → r ≡ r′
+grid-of-once k a r r′ o o′ p q = same p q
+
+pub place-once : (k : _) (a : _) (r r′ : ℕ) (o o′ : _) → place.Learnt k a r o → place.Learnt k a r′ o′ → r ≡ r′
+place-once k a r r′ o o′ p q = same p q
+
+pub point-once : (k : _) (a : _) (r r′ : Point) (o o′ : _) → point.Learnt k a r o → point.Learnt k a r′ o′ → r ≡ r′
+point-once k a r r′ o o′ p q = same p q
+
+pub midpoint-once : (k : _) (a : _) (r r′ : ℕ) (o o′ : _) → midpoint.Learnt k a r o → midpoint.Learnt k a r′ o′ → r ≡ r′
+midpoint-once k a r r′ o o′ p q = same p q
+
+pub in-quarters-once : (k : _) (a : _) (r r′ : ℕ) (o o′ : _) → in-quarters.Learnt k a r o → in-quarters.Learnt k a r′ o′ → r ≡ r′
+in-quarters-once k a r r′ o o′ p q = same p q
+
+pub is-void-once : (k : _) (a : _) (r r′ : Bool) (o o′ : _) → is-void.Learnt k a r o → is-void.Learnt k a r′ o′ → r ≡ r′
+is-void-once k a r r′ o o′ p q = same p q
+
+pub raised-once : (k : _) (a : _) (r r′ : ℕ) (o o′ : _) → raised.Learnt k a r o → raised.Learnt k a r′ o′ → r ≡ r′
+raised-once k a r r′ o o′ p q = same p q
+
+pub lowered-once : (k : _) (a : _) (r r′ : ℤ) (o o′ : _) → lowered.Learnt k a r o → lowered.Learnt k a r′ o′ → r ≡ r′
+lowered-once k a r r′ o o′ p q = same p q
+
+pub good-once : (k : _) (a : _) (r r′ : Bool) (o o′ : _) → good.Learnt k a r o → good.Learnt k a r′ o′ → r ≡ r′
+good-once k a r r′ o o′ p q = same p q
+
+pub kept-once : (k : _) (a : _) (r r′ : Bool) (o o′ : _) → kept.Learnt k a r o → kept.Learnt k a r′ o′ → r ≡ r′
+kept-once k a r r′ o o′ p q = same p q
+
+pub keeps-once : (k : _) (a : _) (r r′ : Bool) (o o′ : _) → keeps.Learnt k a r o → keeps.Learnt k a r′ o′ → r ≡ r′
+keeps-once k a r r′ o o′ p q = same p q
+
+pub filled-once : (k : _) (a : _) (r r′ : Bool) (o o′ : _) → filled.Learnt k a r o → filled.Learnt k a r′ o′ → r ≡ r′
+filled-once k a r r′ o o′ p q = same p q
+
+pub site-of-once : (k : _) (a : _) (r r′ : Site) (o o′ : _) → site-of.Learnt k a r o → site-of.Learnt k a r′ o′ → r ≡ r′
+site-of-once k a r r′ o o′ p q = same p q
+
+pub reach-of-once : (k : _) (a : _) (r r′ : ℕ) (o o′ : _) → reach-of.Learnt k a r o → reach-of.Learnt k a r′ o′ → r ≡ r′
+reach-of-once k a r r′ o o′ p q = same p q
+
+pub corners-good-once : (k : _) (a : _) (r r′ : Bool) (o o′ : _) → corners-good.Learnt k a r o → corners-good.Learnt k a r′ o′ → r ≡ r′
+corners-good-once k a r r′ o o′ p q = same p q
+
+pub is-cut-once : (k : _) (a : _) (r r′ : Bool) (o o′ : _) → is-cut.Learnt k a r o → is-cut.Learnt k a r′ o′ → r ≡ r′
+is-cut-once k a r r′ o o′ p q = same p q
