@@ -13,3 +13,4 @@ pub mod Parts
 pub mod OneMesh
 pub mod Surface
 pub mod Calls
+pub mod Values

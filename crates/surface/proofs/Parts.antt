@@ -61,7 +61,7 @@ module _ {s : Surveying} {a : Selected} {marks : List ℕ} {heights : List ℤ} 
   ts = mesh (s .m) kept
 
   meshed : r .refusal ≡ accepted
-  meshed = mesh-rule.selected selects (c .accepts) (c .meshes) .1 (c .room)
+  meshed = mesh-rule.selected selects (c .accepts) (c .meshes) .1 (omega (arith, c .room))
 
   reading : AsRead (drawing marks (s .m) places) r places′
   reading = as-read (c .meshes) meshed
