@@ -8,7 +8,7 @@ use Rattle.grid.specs.Grid.{side, inQuarters, at, midpoint}
 use Rattle.grid.specs.declared.points.Point.{Point}
 
 -- A triangle (l, a, r), and a point's weights at its corners. On the walk these are whole numbers that add up to 4N, by which the point is the
--- mean of the corners (`Barycentric` in `Rule`).
+-- mean of the corners (`Barycentric` in `Geometry`).
 pub record Weighed : Type 0 where
   pub l : Point
   pub a : Point

@@ -34,7 +34,8 @@ badMark = 6
 abbrev pub notClosed : ℕ
 notClosed = 7
 
--- fewer than three entries per triangle; the triangles needed are given with it
+-- triangles: fewer than three entries per triangle; the triangles needed are given with it. Strip: fewer entries than it has places; the
+-- places needed are given with it
 abbrev pub noRoom : ℕ
 noRoom = 8
 

@@ -1,4 +1,4 @@
 pub mod Examples
 pub mod Unique
 pub mod Contracts
-pub mod Joined
+pub mod FourCalls

@@ -1,3 +1,3 @@
 pub mod Examples
 pub mod Unique
-pub mod Joined
+pub mod FourCalls

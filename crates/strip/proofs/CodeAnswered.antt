@@ -28,16 +28,13 @@ use Rattle.strip.specs.Strip.{placed}
 use Rattle.strip.specs.Inner.{ringOf, laid, outset, Laid, Refused}
 use Rattle.strip.specs.Stripped.{strip, refusal, answerOf, placesAfter}
 use Rattle.strip.specs.declared.Stripped.{Stripped}
+use Rattle.strip.proofs.Wedge.{placed-long}
 use Rattle.strip.proofs.CodeRing.{ring-short}
 use Rattle.strip.proofs.CodeLaid.{laid-over}
 use Rattle.strip.proofs.Whole.{ring-strip, one-strip}
 
 abbrev pub answering : ℕ → ℕ → Stripped
 answering number places = record { refusal = number; places = places }
-
-placed-long : (m : ℕ) (ts : List Three) → length (placed m ts) ≡ length ts
-placed-long m [] = refl
-placed-long m (t ∷ ts) = omega (arith, placed-long m ts)
 
 two-at-least : (m : ℕ) (kept : Point → Bool) → 2 ≤ number m kept
 unfolding number

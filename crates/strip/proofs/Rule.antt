@@ -25,6 +25,7 @@ use Rattle.strip.specs.Reading.{AllAlike, readStrip, threes}
 use Rattle.strip.specs.Stripped.{trianglesOf, strip, refusal, answerOf, placesAfter, Strips}
 use Rattle.strip.specs.Rule.{Turned, asTriangles, room, nothing, Follows, OneStrip}
 use Rattle.strip.specs.declared.Stripped.{Stripped}
+use Rattle.strip.proofs.Wedge.{placed-long}
 use Rattle.strip.proofs.Whole.{one-strip}
 use Rattle.strip.proofs.Accepted.{strip-of, strip-of-only, turned, turned-only}
 
@@ -105,10 +106,6 @@ threes-placed : (m : ℕ) (ts : List Three) → threes (placesOf m ts) ≡ place
 threes-placed m [] = refl
 threes-placed m (t ∷ ts) =
     ap (λ (us : List Corners). corners (place m (t .first)) (place m (t .second)) (place m (t .third)) ∷ us) (threes-placed m ts)
-
-placed-long : (m : ℕ) (ts : List Three) → length (placed m ts) ≡ length ts
-placed-long m [] = refl
-placed-long m (t ∷ ts) = ap (λ (n : ℕ). suc n) (placed-long m ts)
 
 -- beside what triangles writes of the same marks, with whichever room: the strip reads back as that list, in at most two places a triangle
 pub beside : {h : Handed} {r : Stripped} {places′ : List ℕ} (lent : List ℕ) {n : Meshed} {list : List ℕ} → Strips h r places′ → r .refusal ≡ accepted →

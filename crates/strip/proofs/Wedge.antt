@@ -8,6 +8,7 @@ use Prim.Native.Nat.{ℕ, zero, suc, _+_, _*_, _/_, _%_}
 use native.Mathlib.Decide.{ℕ-discrete}
 use native.Mathlib.Nat.{add-comm}
 use native.Mathlib.Omega.{arith}
+use lib.ListN.{length}
 use Rattle.grid.specs.Grid.{place, midpoint, midplace, Inside}
 use Rattle.grid.specs.Points.{odd}
 use Rattle.grid.specs.Turn.{CounterClockwise}
@@ -26,6 +27,10 @@ use Rattle.strip.specs.declared.ring.Side.{Side}
 use Rattle.strip.specs.declared.ring.Side.the-variants.{Nowhere, Leg, Longest}
 use Rattle.strip.proofs.Turns.{Turns}
 use Rattle.strip.proofs.Passing.{Gate, gate, Ways, legs, by-leg, passed, Run, one, follow, cast}
+
+pub placed-long : (m : ℕ) (ts : List Three) → length (placed m ts) ≡ length ts
+placed-long m [] = refl
+placed-long m (t ∷ ts) = omega (arith, placed-long m ts)
 
 pub placed-append : (m : ℕ) (ts us : List Three) → placed m (ts ++ us) ≡ placed m ts ++ placed m us
 placed-append m [] us = refl

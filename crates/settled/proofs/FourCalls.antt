@@ -23,7 +23,7 @@ use Rattle.aim.proofs.height.Reads as height
 use Rattle.aim.proofs.plane.Reads as plane
 use Rattle.surface.specs.Surface.{SurfaceAt, OneSurface}
 use Rattle.surface.proofs.Surface.{one-surface}
-use Rattle.settled.specs.Joined.{Joined}
+use Rattle.settled.specs.FourCalls.{FourCalls}
 
 -- a selection, its marks and its heights at exit, and its size
 module _ (k : _) (a : _) (s : Selected) (o : _) (selects : select.Learnt k a s o) (selected : s .refusal ≡ accepted) where
@@ -72,8 +72,8 @@ module _ (k : _) (a : _) (s : Selected) (o : _) (selects : select.Learnt k a s o
       plane-here : AnswersPlane (asking marks heights m x y) p
       plane-here = rw asked-plane at grounds
 
-      pub joined : Joined m marks heights r places x y h p
-      joined =
+      pub four-calls : FourCalls m marks heights r places x y h p
+      four-calls =
           let ok = here .heightAccepts h (said-here .answer) in
           let flat = here .planeAccepts p (plane-here .answer) in
           record {

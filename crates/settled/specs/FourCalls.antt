@@ -1,5 +1,5 @@
 -- The four calls together: a selection, triangles on the marks that it wrote, height and plane on the marks and the heights that it wrote, at one
--- point. `joined` in proofs/Joined has this from their contracts alone, as the checker has them, of any selection and any triangles that were
+-- point. `four-calls` in proofs/FourCalls has this from their contracts alone, as the checker has them, of any selection and any triangles that were
 -- accepted. Definitions only.
 use mathlib.Core.Path.{_≡_}
 use mathlib.Core.List.{List}
@@ -17,7 +17,7 @@ use Rattle.aim.specs.declared.PlaneAnswer.{PlaneAnswer}
 use Rattle.surface.specs.Surface.{Covered, Gives, OneSurface}
 
 -- by what selection wrote, what triangles answered and wrote, and what height and plane answered at (x, y), in quarter cells
-pub record Joined (m : ℕ) (marks : List ℕ) (heights : List ℤ) (r : Meshed) (places : List ℕ) (x y : ℕ) (a : HeightAnswer) (p : PlaneAnswer) : Type 0 where
+pub record FourCalls (m : ℕ) (marks : List ℕ) (heights : List ℤ) (r : Meshed) (places : List ℕ) (x y : ℕ) (a : HeightAnswer) (p : PlaneAnswer) : Type 0 where
   -- demand 3
   pub surface : OneSurface m marks heights r places
   -- height and plane are answered, each float the quotient exactly, with one height
