@@ -72,7 +72,12 @@ def failed_fact(error):
     if any(said.search(error) for said in (VALUES, OMEGA, ENDS, HOLDS)):
         return True
     both = ARE.search(error) or HAS.search(error)
-    return bool(both) and relation(both[1]) is not None and relation(both[1]) == relation(both[2])
+    if not both:
+        return False
+    # what was learnt from a call is not what is claimed
+    if named(both[2]) == "Learnt":
+        return not both[1].startswith(("lts.", "tie."))
+    return relation(both[1]) is not None and relation(both[1]) == relation(both[2])
 
 
 def refusal_fault(log):
