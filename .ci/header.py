@@ -41,7 +41,7 @@ def pairs(text):
     """`const int16_t *survey, size_t survey_len` as pairs of a type and a name."""
     read = [re.fullmatch(r"((?:const )?\w+ ?\*?) ?(\w+)", " ".join(part.split())) for part in text.split(",")]
     if None in read:
-        raise ValueError(f"not understood: {' '.join(text.split())}")
+        raise ValueError(" ".join(text.split()))
     return [(re.sub(r" ?\*", " *", p[1]).strip(), p[2]) for p in read]
 
 
@@ -68,7 +68,7 @@ def declared(header):
         elif call:
             calls.append((call[2], pairs(call[3]), call[1]))
         elif not re.fullmatch(r"enum \{[^{}]*\}", statement):
-            raise ValueError(f"not understood: {' '.join(statement.split())[:100]}")
+            raise ValueError(" ".join(statement.split())[:100])
     return calls, structs
 
 
@@ -76,8 +76,8 @@ def header_faults(header, code):
     try:
         calls, structs = declared(header)
         wanted = exported(code)
-    except ValueError as what:
-        return [str(what)]
+    except (KeyError, ValueError) as what:
+        return [f"not understood: {what}"]
     faults = [f"{l.strip()}: a declaration begins its line" for l in re.findall(r"^[ \t]+\w+ mosskirtle_\w+\(.*$", header, re.M)]
     names = [name for name, _, _ in calls]
     faults += [f"{name} is declared {names.count(name)} times, and exported once" for name in wanted if names.count(name) != 1]
