@@ -63,3 +63,9 @@ def promise_faults(document, sources):
         elif "ensures {" in head:
             faults += says_nothing_of(name, head)
     return faults
+
+
+def cited_faults(document, edits, words):
+    """A name with an underscore is that of an edit, or a word of the code."""
+    cited = sorted(set(re.findall(r"`([a-z]+(?:_[a-z0-9]+)+)`", document)))
+    return [f"docs/PROMISES.md names {name}, which is no edit and no word of the code" for name in cited if name not in edits and name not in words]
