@@ -28,6 +28,7 @@ typedef struct { uint64_t ours, plain; } cost;
 typedef struct {
     mosskirtle_selection selected;
     mosskirtle_mesh refused, meshed;
+    mosskirtle_strip_answer stripped;
     uint8_t marks[MOST_SAMPLES];
     int16_t heights[MOST_SAMPLES];
     uint16_t places[3 * MOST_TRIANGLES];
@@ -38,7 +39,8 @@ typedef struct {
 /* What every call takes in all: the room that the list of triangles needs is lacking first, and lent then. */
 typedef struct { uint64_t select, refused, triangles, height, plane; } taken;
 
-typedef struct { cost select, refused, triangles, height, plane; uint32_t written; } row;
+/* The strip is ours alone: with room for two places a triangle, and with just the places that it takes. */
+typedef struct { cost select, refused, triangles, height, plane; uint64_t strip, strip_tight; uint32_t written, places; } row;
 
 /* The made ones by kind and size, then the further surveys. */
 static input *inputs;
@@ -95,6 +97,17 @@ static void do_planes(const calls *by, const input *in, answers *to)
         to->plane[i] = by->plane(to->marks, samples, to->heights, samples, in->m, points[i][0], points[i][1]);
 }
 
+static void do_strip(const calls *by, const input *in, answers *to)
+{
+    to->stripped = by->strip(to->marks, samples_of(in->m), in->m, to->places, 2 * MOST_TRIANGLES);
+}
+
+/* After `do_strip`. */
+static void do_strip_tight(const calls *by, const input *in, answers *to)
+{
+    to->stripped = by->strip(to->marks, samples_of(in->m), in->m, to->places, to->stripped.places);
+}
+
 typedef void (*work)(const calls *by, const input *in, answers *to);
 
 static uint64_t counted(work what, const calls *by, const input *in, answers *to)
@@ -138,6 +151,18 @@ static cost less(uint64_t by_ours, uint64_t by_plain, uint64_t by_none)
     return (cost){by_ours - by_none, by_plain - by_none};
 }
 
+static void measure_strip(const input *in, row *of)
+{
+    answers *to = &answered[0];
+    of->strip = counted(do_strip, &ours, in, to);
+    of->places = to->stripped.places;
+    of->strip_tight = counted(do_strip_tight, &ours, in, to);
+    if (to->stripped.refusal != MOSSKIRTLE_ACCEPTED || to->stripped.places != of->places)
+        fail("refused", in);
+    of->strip -= counted(do_strip, &none, in, to);
+    of->strip_tight -= counted(do_strip_tight, &none, in, to);
+}
+
 static row measure(const input *in)
 {
     draw_points(in->m);
@@ -146,7 +171,7 @@ static row measure(const input *in)
     compare(in);
     uint32_t written = answered[0].meshed.triangles;
     taken by_none = call_all(&none, in, &answered[1]);
-    return (row){
+    row measured = {
         .select = less(by_ours.select, by_plain.select, by_none.select),
         .refused = less(by_ours.refused, by_plain.refused, by_none.refused),
         .triangles = less(by_ours.triangles, by_plain.triangles, by_none.triangles),
@@ -154,6 +179,8 @@ static row measure(const input *in)
         .plane = less(by_ours.plane, by_plain.plane, by_none.plane),
         .written = written,
     };
+    measure_strip(in, &measured);
+    return measured;
 }
 
 static void print_cost(cost of, uint64_t things)
@@ -198,6 +225,21 @@ static void print_triangles(void)
         print_cost(r->refused, samples_of(inputs[i].m));
         print_cost(list, r->written);
         printf("\n");
+    }
+}
+
+static void print_strip(void)
+{
+    printf("\nThe strip, instructions a triangle, the look at the marks included; and the list so counted:\n\n");
+    printf("| grid | m | triangles | places | with room for two a triangle | with just its places | the list |\n|---|---|---|---|---|---|---|\n");
+    for (int i = 0; i < inputs_len; i++) {
+        if (!shown(i))
+            continue;
+        const row *r = &rows[i];
+        double each = r->written;
+        print_input(&inputs[i]);
+        printf(" %u | %u | %.1f | %.1f | %.1f |\n", r->written, r->places, (double)r->strip / each, (double)r->strip_tight / each,
+               (double)r->triangles.ours / each);
     }
 }
 
@@ -282,6 +324,7 @@ static size_t deepest(const calls *by, work what)
     for (int i = 0; i < inputs_len; i++) {
         draw_points(inputs[i].m);
         do_select(&plain, &inputs[i], answered);
+        do_strip(&ours, &inputs[i], answered);
         under_test.what = what;
         under_test.by = by;
         under_test.in = &inputs[i];
@@ -295,12 +338,24 @@ static void print_stack(void)
 {
     static const struct { const char *name; work what; } every[] = {
         {"selection", do_select}, {"triangles", do_triangles}, {"height", do_heights}, {"plane", do_planes},
-    };
+    }, strips[] = {{"strip, with room for two a triangle", do_strip}, {"strip, with just its places", do_strip_tight}};
     printf("\nStack, the most bytes that a call took on any of these grids:\n\n| call | ours | C |\n|---|---|---|\n");
     for (size_t i = 0; i < sizeof every / sizeof *every; i++) {
         size_t base = deepest(&none, every[i].what);
         printf("| %s | %zu | %zu |\n", every[i].name, deepest(&ours, every[i].what) - base, deepest(&plain, every[i].what) - base);
     }
+    for (size_t i = 0; i < sizeof strips / sizeof *strips; i++)
+        printf("| %s | %zu | |\n", strips[i].name, deepest(&ours, strips[i].what) - deepest(&none, strips[i].what));
+}
+
+/* A size is one digit. */
+static uint32_t size_from(const char *text)
+{
+    if (strlen(text) != 1 || text[0] < '0' || text[0] > '0' + LARGEST_MEASURED) {
+        fprintf(stderr, "%s is no size, 0 to %d\n", text, LARGEST_MEASURED);
+        exit(1);
+    }
+    return (uint32_t)(text[0] - '0');
 }
 
 static void make_inputs(const char *survey, int given, char **further)
@@ -317,7 +372,7 @@ static void make_inputs(const char *survey, int given, char **further)
         for (uint32_t m = SMALLEST_MEASURED; m <= LARGEST_MEASURED; m++)
             make_input(next++, made[kind].kind, &real, m, made[kind].tolerance);
     for (int i = 0; i < given; i++)
-        read_input(next++, further[2 * i], (uint32_t)strtoul(further[2 * i + 1], NULL, 10), TOLERANCE);
+        read_input(next++, further[2 * i], size_from(further[2 * i + 1]), TOLERANCE);
 }
 
 int main(int arguments, char **argument)
@@ -332,6 +387,7 @@ int main(int arguments, char **argument)
         rows[i] = measure(&inputs[i]);
     print_selection();
     print_triangles();
+    print_strip();
     print_queries();
     print_ratios();
     print_voids();

@@ -30,6 +30,12 @@ static mosskirtle_plane_answer no_plane(const uint8_t *marks, size_t marks_len, 
     return (mosskirtle_plane_answer){0};
 }
 
-const calls ours = {mosskirtle_select, mosskirtle_triangles, mosskirtle_height, mosskirtle_plane};
-const calls plain = {plain_select, plain_triangles, plain_height, plain_plane};
-const calls none = {no_select, no_triangles, no_height, no_plane};
+static mosskirtle_strip_answer no_strip(const uint8_t *marks, size_t marks_len, uint32_t m, uint16_t *places, size_t places_len)
+{
+    (void)marks, (void)marks_len, (void)m, (void)places, (void)places_len;
+    return (mosskirtle_strip_answer){0};
+}
+
+const calls ours = {mosskirtle_select, mosskirtle_triangles, mosskirtle_height, mosskirtle_plane, mosskirtle_strip};
+const calls plain = {plain_select, plain_triangles, plain_height, plain_plane, NULL};
+const calls none = {no_select, no_triangles, no_height, no_plane, no_strip};

@@ -363,8 +363,10 @@ static void compare_surveys(uint64_t times)
 
 int main(int argc, char **argv)
 {
-    if (argc != 2) {
-        fprintf(stderr, "say how often to go through the surveys\n");
+    char *end = NULL;
+    unsigned long long times = argc == 2 ? strtoull(argv[1], &end, 10) : 0;
+    if (times == 0 || *end != '\0') {
+        fprintf(stderr, "say how often to go through the surveys, once or more\n");
         return 2;
     }
     make_buffers();
@@ -376,7 +378,7 @@ int main(int argc, char **argv)
     compare_lengths();
     compare_void_corners();
     compare_marks();
-    compare_surveys(strtoull(argv[1], NULL, 10));
+    compare_surveys(times);
     printf("%" PRIu64 " cases passed, %" PRIu64 " surfaces whole, %" PRIu64 " strips read back\n", cases, surfaces, strips);
     return 0;
 }

@@ -28,6 +28,12 @@ static const char *const meanings[] = {
     [MOSSKIRTLE_NO_ROOM] = "there is no room for all places",
 };
 
+static const char *meaning(uint32_t refusal)
+{
+    bool known = refusal < sizeof meanings / sizeof *meanings && meanings[refusal] != NULL;
+    return known ? meanings[refusal] : "a number that the header does not have";
+}
+
 static void fail(const char *form, ...)
 {
     va_list items;
@@ -43,7 +49,7 @@ static void fail(const char *form, ...)
 static void unless_accepted(const char *call, uint32_t refusal)
 {
     if (refusal != MOSSKIRTLE_ACCEPTED)
-        fail("%s refused %u: %s", call, refusal, meanings[refusal]);
+        fail("%s refused %u: %s", call, refusal, meaning(refusal));
 }
 
 static uint32_t number(const char *name, const char *text)
@@ -142,7 +148,7 @@ static void show_height(const ground *g, point at, const char *remark)
     memcpy(&height, &answer.bits, sizeof height);
     printf("  (%3u, %3u)  ", at.x, at.y);
     if (answer.kind == MOSSKIRTLE_REFUSED)
-        printf("refused %u: %s\n", answer.bits, meanings[answer.bits]);
+        printf("refused %u: %s\n", answer.bits, meaning(answer.bits));
     else
         printf("%-8s  %.14g%s\n", answer.kind == MOSSKIRTLE_FILLED ? "FILLED" : "surveyed", height, remark);
 }
