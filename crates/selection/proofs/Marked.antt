@@ -20,6 +20,7 @@ use Rattle.selection.specs.Marks.{markBy, mark, markedOwn, markedDepende
 use Rattle.grid.specs.Inner.{keeps}
 use Rattle.grid.proofs.Keeping.{keeps-good}
 use Rattle.selection.proofs.Least.{corner-kept, over-kept}
+use Rattle.selection.proofs.Within.{void-within, exceeding-filled}
 
 -- the mark by the four tests: grid corner, void, over tolerance, kept
 abbrev markFrom : Bool → Bool → Bool → Bool → ℕ
@@ -125,9 +126,12 @@ module _ (m : ℕ) (survey : List ℤ) (limit : ℕ) where
       go false n e = refl
 
   pub corners-within : CornersWithin m (exceeding m survey limit)
-  unfolding exceeding errorBy ends
-  corners-within p e = rw (kind-corner m p e, no-error (sample m (filled m survey) p)) (go (isVoid (sample m survey p)))
+  unfolding ends
+  corners-within p e = go (isVoid (sample m survey p)) refl
     where
-      go : (t : Bool) → ltb limit (cond t 0 0) ≡ false
-      go true = le-ltb limit 0 (omega arith)
-      go false = le-ltb limit 0 (omega arith)
+      none : ltb limit (doubledError (sample m (filled m survey) p) (sample m (filled m survey) (ends m p .first)) (sample m (filled m survey) (ends m p .second))) ≡ false
+      none = rw (kind-corner m p e, no-error (sample m (filled m survey) p)) (le-ltb limit 0 (omega arith))
+
+      go : (t : Bool) → isVoid (sample m survey p) ≡ t → exceeding m survey limit p ≡ false
+      go true v = void-within m survey limit p v
+      go false n = sym (exceeding-filled m survey limit p refl n) ∙ none
