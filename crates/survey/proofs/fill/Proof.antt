@@ -1,14 +1,14 @@
--- `survey::fill` meets its contract: what was partly filled has the heights of the survey.
-use mathlib.Core.Path.{_≡_, ap, _∙_, subst, subst⁻¹}
+-- `survey::fill` meets its contract: what the sweep leaves has no void, and so is filled.
+use mathlib.Core.Path.{_≡_, _∙_, subst, subst⁻¹}
 use mathlib.Core.List.{List}
 use lib.ListN.{length}
 use lib.IntN.{ℤ}
 use Rattle.grid.specs.Grid.{Sound, samples}
 use Rattle.grid.specs.declared.Grid.{Grid}
-use Rattle.survey.specs.Filled.{filled, CornersSurveyed}
+use Rattle.survey.specs.Filled.{CornersSurveyed}
 use Rattle.survey.specs.Inner.{Ready, NoVoid}
-use Rattle.survey.proofs.Partial.{partly-none, ready-on}
-use Rattle.survey.proofs.Sweep.{partly-filled, none-left}
+use Rattle.survey.proofs.Partial.{partly-none}
+use Rattle.survey.proofs.Sweep.{none-left}
 use borrow.Author.Needs.{needs}
 use Rattle.survey.proofs.fill.Statement.{statement}
 use Rattle.survey.proofs.fill.Tie as tie
@@ -28,18 +28,15 @@ fill-spacings-requires : tie.Need-fill-spacings-requires
 fill-spacings-requires c κs =
     let s = c .before .before .before .before .before .before .before in copied (c .before .before .before .before .before .copy .ensures) (s .pre .0) (s .pre .1) (s .pre .3)
 
-fill-left-requires : tie.Need-fill-left-requires
-fill-left-requires c κs =
-    let s = c .before .before .before .before .before .before .before .before .before .before in
-    ready-on (copied (c .before .before .before .before .before .before .before .before .copy .ensures) (s .pre .0) (s .pre .1) (s .pre .3)) (c .before .before .fill-spacings .ensures)
-
 same-length : tie.Need-same-length
 same-length c = search needs
 
 returns : tie.Need-returns
 returns c =
-    let s = c .before .before .before .before .before .before .before .before .before .before .before .before in
-    c .before .fill-left .ensures ∙ partly-filled (s .args .g .m) _ _ (c .before .before .before .before .fill-spacings .ensures) ∙ ap (filled (s .args .g .m)) (c .before .before .before .before .before .before .before .before .before .before .copy .ensures)
+    let s = c .before .before .before .before .before .before .before .before .before in
+    let same = c .before .before .before .before .before .before .before .copy .ensures in
+    let swept = c .before .fill-spacings .ensures in
+    none-left (s .args .g .m) _ _ (s .pre .1) (rw same at (swept .partly)) (swept .stand)
 
 same-length-2 : tie.Need-same-length-2
 same-length-2 c = search needs
@@ -58,7 +55,6 @@ fill-spec =
     copy-requires
     has-void-requires
     fill-spacings-requires
-    fill-left-requires
     same-length
     returns
     same-length-2
