@@ -11,7 +11,7 @@ use Rattle.grid.specs.Mark.{filledMark}
 use Rattle.grid.specs.declared.points.Point.{Point}
 use Rattle.grid.proofs.OnGrid.{length-onGrid, is-onGrid}
 use Rattle.survey.specs.Filled.{sample, CornersSurveyed}
-use Rattle.survey.proofs.Sweep.{sample-place}
+use Rattle.survey.proofs.Reading.{sample-place}
 use Rattle.selection.specs.Error.{over}
 use Rattle.selection.specs.Marks.{mark, marksOf, count}
 use Rattle.selection.proofs.Marked.{void-mark}

@@ -1,7 +1,7 @@
 -- The height of a point: itself if surveyed, else the floor of the mean of its ends' heights, whatever number of ends in a
 -- row the definition allows. Each step to an end falls towards the largest spacing, where an end is the grid corner itself.
 use mathlib.Core.Path.{_≡_, refl, sym, ap, _∙_}
-use mathlib.Core.Bool.{Bool, true, false, cond}
+use mathlib.Core.Bool.{Bool, true, false, true≢false, cond}
 use mathlib.Core.List.{List}
 use Prim.Native.Nat.{ℕ, zero, suc, _-_, _≤_, _<_}
 use native.Mathlib.Decide.{le-ind}
@@ -15,12 +15,9 @@ use Rattle.grid.specs.declared.points.Pair.{Pair}
 use Rattle.grid.proofs.Spaced.{level-below, corner-level}
 use Rattle.grid.proofs.Parity.{kind-corner}
 use Rattle.grid.proofs.Coarser.{ends-coarser}
-use Rattle.survey.specs.Filled.{floorMean, sample, heightBy, heightOf}
+use Rattle.survey.specs.Filled.{floorMean, sample, heightBy, heightOf, CornersSurveyed}
+use Rattle.survey.specs.Inner.{depth}
 use Rattle.survey.proofs.Mean.{mean-itself}
-
--- how far below the largest spacing
-abbrev pub depth : ℕ → Point → ℕ
-depth m p = m - level m (p .x) (p .y)
 
 -- q lies inside and, where there is depth left, less deep than p
 pub record Up (m : ℕ) (p q : Point) : Type 0 where
@@ -55,6 +52,14 @@ module _ (m : ℕ) (p : Point) (h : Inside m p) where
           let b : level m (p .x) (p .y) < m = level-below m p h e in
           let c : 1 ≤ 0 = omega arith in
           absurd (not-suc-le-zero c)
+
+-- a void is no grid corner
+pub void-inner : (m : ℕ) (survey : List ℤ) → CornersSurveyed m survey → (p : Point) → isVoid (sample m survey p) ≡ true → isCorner m p ≡ false
+void-inner m survey corners p v = go (isCorner m p) refl
+  where
+    go : (t : Bool) → isCorner m p ≡ t → isCorner m p ≡ false
+    go true e = absurd (true≢false (sym v ∙ corners p e))
+    go false e = e
 
 -- a choice between two equal heights
 cond-same : (t : Bool) {a b : ℤ} → a ≡ b → cond t a b ≡ b

@@ -17,8 +17,9 @@ use Rattle.grid.specs.declared.points.Point.{Point}
 use Rattle.grid.proofs.Spaced.{corner-inside}
 use Rattle.grid.proofs.Places.{place-below, point-place, point-inside}
 use Rattle.survey.specs.Filled.{floorMean, sample, heightBy, heightOf, CornersSurveyed}
-use Rattle.survey.specs.Inner.{Ready, Partly, Found}
-use Rattle.survey.proofs.Filling.{depth, ends-up, height-by, height-surveyed, height-void}
+use Rattle.survey.specs.Inner.{Ready, depth, Stands, Partly}
+use Rattle.survey.proofs.Reading.{sample-place}
+use Rattle.survey.proofs.Filling.{ends-up, height-by, height-surveyed, height-void}
 
 -- what a point's sample may be in a partly filled list
 abbrev Either : ℕ → List ℤ → List ℤ → Point → Type 0
@@ -90,45 +91,30 @@ partly-then m a b c p q =
           (q .each i h);
     }
 
--- the height of a point of the survey, kept at its place
-pub partly-kept : (m : ℕ) (a b : List ℤ) (p : Point) → length a ≡ samples m → Inside m p → Partly m a b →
-    Partly m a (set b (place m p) (heightOf m a p))
-partly-kept m a b p n h part =
-    record {
-      long = length-set b (place m p) (heightOf m a p) ∙ part .long;
-      each = λ i l. go i l (ℕ-discrete i (place m p));
-    }
+-- a height that stood stands
+pub stays : (m : ℕ) (a b : List ℤ) → Partly m a b → (i : ℕ) → i < samples m → Stands a i → Stands b i
+stays m a b part i l h = go (part .each i l)
   where
-    go : (i : ℕ) → i < samples m → Dec (i ≡ place m p) →
-        (getD (set b (place m p) (heightOf m a p)) i void ≡ getD a i void) ⊎
-        (getD (set b (place m p) (heightOf m a p)) i void ≡ heightOf m a (point m i))
-    go i l (yes e) =
-        let room : place m p < length b = subst (λ (k : ℕ). place m p < k) (sym (part .long ∙ n)) (place-below m p h) in
+    go : (getD b i void ≡ getD a i void) ⊎ (getD b i void ≡ heightOf m a (point m i)) → Stands b i
+    go (inl e) = ap isVoid e ∙ h
+    go (inr e) =
+        let same = sample-place m a i in
+        ap isVoid (e ∙ height-surveyed m a (point m i) (ap isVoid same ∙ h) ∙ same) ∙ h
+
+-- the height of a place of the survey, kept there
+pub partly-kept : (m : ℕ) (a b : List ℤ) (i : ℕ) → i < length b → Partly m a b → Partly m a (set b i (heightOf m a (point m i)))
+partly-kept m a b i room part =
+    record { long = length-set b i (heightOf m a (point m i)) ∙ part .long; each = λ k l. go k l (ℕ-discrete k i) }
+  where
+    kept : ℤ
+    kept = heightOf m a (point m i)
+
+    go : (k : ℕ) → k < samples m → Dec (k ≡ i) → (getD (set b i kept) k void ≡ getD a k void) ⊎ (getD (set b i kept) k void ≡ heightOf m a (point m k))
+    go k l (yes e) =
         inr
-        (ap (λ (k : ℕ). getD (set b (place m p) (heightOf m a p)) k void) e
-        ∙ getD-set-same b (place m p) (heightOf m a p) void room
-        ∙ ap (heightOf m a) (sym (ap (point m) e ∙ point-place m p h)))
-    go i l (no d) =
-        let same = getD-set-other b (place m p) i (heightOf m a p) void d in
-        ⊎-elim (λ e. inl (same ∙ e)) (λ e. inr (same ∙ e)) (part .each i l)
-
--- finding a height that stands there
-pub found-surveyed : (m : ℕ) (a : List ℤ) (p : Point) → isVoid (sample m a p) ≡ false → Found m a a p (sample m a p)
-found-surveyed m a p n = record { height = sym (height-surveyed m a p n); written = refl; partly = partly-none m a }
-
--- finding a void's height: first one end's, then the other's, then the mean, which is kept
-pub found-void : (m : ℕ) (a b c : List ℤ) (p : Point) (x y : ℤ) → length a ≡ samples m → Inside m p → isVoid (sample m a p) ≡ true →
-    Found m a b (ends m p .first) x → Found m b c (ends m p .second) y →
-    Found m a (set c (place m p) (floorMean x y)) p (floorMean x y)
-unfolding sample
-found-void m a b c p x y n h v f g =
-    let u = ends-up m p h in
-    let part = partly-then m a b c (f .partly) (g .partly) in
-    let second = g .height ∙ partly-same m a b (f .partly) (ends m p .second) (u .1 .inside) in
-    let mean : floorMean x y ≡ heightOf m a p = (λ i. floorMean (f .height i) (second i)) ∙ sym (height-void m a p h v) in
-    let room : place m p < length c = subst (λ (k : ℕ). place m p < k) (sym (part .long ∙ n)) (place-below m p h) in
-    record {
-      height = mean;
-      written = getD-set-same c (place m p) (floorMean x y) void room;
-      partly = subst (λ (z : ℤ). Partly m a (set c (place m p) z)) (sym mean) (partly-kept m a c p n h part);
-    }
+        (ap (λ (n : ℕ). getD (set b i kept) n void) e
+        ∙ getD-set-same b i kept void room
+        ∙ ap (λ (n : ℕ). heightOf m a (point m n)) (sym e))
+    go k l (no d) =
+        let same = getD-set-other b i k kept void d in
+        ⊎-elim (λ e. inl (same ∙ e)) (λ e. inr (same ∙ e)) (part .each k l)

@@ -1,7 +1,7 @@
 -- The filled heights follow the rule, they are the only ones that do where no grid corner is void, and none of them is void.
 -- Each by the depth below the largest spacing, which falls from a point to its ends.
 use mathlib.Core.Path.{_≡_, refl, sym, _∙_}
-use mathlib.Core.Bool.{Bool, true, false, true≢false}
+use mathlib.Core.Bool.{Bool, true, false}
 use mathlib.Core.List.{List}
 use Prim.Native.Nat.{ℕ, zero, suc, _≤_, _<_}
 use native.Mathlib.Omega.{arith}
@@ -9,15 +9,16 @@ use lib.ListN.{length}
 use lib.IntN.{ℤ}
 use lib.Signed.{mag}
 use Rattle.grid.specs.Grid.{void, isVoid, Height, samples, place, point, Inside}
-use Rattle.grid.specs.Points.{isCorner, ends}
+use Rattle.grid.specs.Points.{ends}
 use Rattle.grid.specs.declared.points.Point.{Point}
 use Rattle.grid.proofs.Places.{place-below, point-inside}
 use Rattle.grid.proofs.OnGrid.{length-onGrid, onGrid-point, is-onGrid}
 use Rattle.survey.specs.Filled.{floorMean, sample, heightOf, filled, CornersSurveyed}
 use Rattle.survey.specs.Rule.{Fills, Sixteen}
+use Rattle.survey.specs.Inner.{depth}
 use Rattle.survey.proofs.Mean.{Above, mean-above, above-height, height-not-void, not-void-above}
-use Rattle.survey.proofs.Filling.{depth, ends-up, depth-zero, height-surveyed, height-void}
-use Rattle.survey.proofs.Sweep.{sample-place}
+use Rattle.survey.proofs.Filling.{ends-up, depth-zero, void-inner, height-surveyed, height-void}
+use Rattle.survey.proofs.Reading.{sample-place}
 
 module _ (m : ℕ) (survey : List ℤ) where
   -- the filled list has the height of each point at its place
@@ -66,14 +67,6 @@ module _ (m : ℕ) (survey : List ℤ) where
       pub from-ends : (p : Point) → Inside m p → P p
       from-ends p h = by-depth m p h (omega arith)
 
-    -- a void is no grid corner
-    inner : (p : Point) → isVoid (sample m survey p) ≡ true → isCorner m p ≡ false
-    inner p v = go (isCorner m p) refl
-      where
-        go : (t : Bool) → isCorner m p ≡ t → isCorner m p ≡ false
-        go true e = absurd (true≢false (sym v ∙ corners p e))
-        go false e = e
-
     -- no second answer: heights that follow the rule are the filled heights
     pub fills-only : (heights : List ℤ) → Fills m survey heights → heights ≡ filled m survey
     unfolding filled
@@ -83,7 +76,7 @@ module _ (m : ℕ) (survey : List ℤ) where
         same : (p : Point) → Inside m p → sample m heights p ≡ heightOf m survey p
         same p h =
             from-ends (λ q. sample m heights q ≡ heightOf m survey q) (λ q i n. f .surveyed q i n ∙ sym (height-surveyed m survey q n))
-            (λ q i v a b. f .voids q i (inner q v) v ∙ (λ j. floorMean (a j) (b j)) ∙ sym (height-void m survey q i v))
+            (λ q i v a b. f .voids q i (void-inner m survey corners q v) v ∙ (λ j. floorMean (a j) (b j)) ∙ sym (height-void m survey q i v))
             p
             h
 

@@ -1,36 +1,38 @@
 // Filling by spacing: every void before the points that it is an end of.
 use super::floor_mean;
-use super::settle;
+use super::reach_at;
 use grid::Grid;
-ghost use Prim.Native.Nat.{_<_};
-ghost use Rattle.grid.specs.Grid.{at, point, samples};
+ghost use Rattle.grid.specs.Grid.{at};
 ghost use Rattle.grid.specs.Inner.{Power, Spread};
-ghost use Rattle.survey.specs.Inner.{Ready, Partly, Run, Row};
+ghost use Rattle.survey.specs.Inner.{Ready, VoidAt, Stands, Swept, Run, RunFilled, Row, RowFilled, RowsFilled, NoVoid};
 
-// The ends lie reach places before and behind. Where a height stands at both, there is nothing to recurse to.
-fn fill_at(g: Grid, i: usize, reach: usize, heights: &mut [i16])
-    requires { ⌜ Ready g (now heights) × Spread (g .m) (point (g .m) i) reach × (i < samples (g .m)) ⌝ }
-    ensures { λ _. ⌜ Partly (g .m) (now (heights .entry)) (now (heights .exit)) ⌝ }
+// The height of a void, whose ends lie reach places before and behind it: recurses to an end that is void too, a run of one place.
+// What was found is kept in heights, so that no height is worked out twice.
+fn fill_void(g: Grid, i: usize, reach: usize, heights: &mut [i16])
+    requires { ⌜ Ready g (now heights) × VoidAt (g .m) (now heights) i reach ⌝ }
+    ensures { λ _. ⌜ Swept (g .m) (now (heights .entry)) (now (heights .exit)) (Stands (now (heights .exit)) i) ⌝ }
 {
-    if Grid::is_void(heights[i]) {
-        let a = heights[i - reach];
-        let b = heights[i + reach];
-        if Grid::is_void(a) | Grid::is_void(b) {
-            settle(g, i, heights);
-        } else {
-            heights[i] = floor_mean(a, b);
-        }
+    let before = i - reach;
+    let behind = i + reach;
+    if Grid::is_void(heights[before]) {
+        fill_run(g, before, before + 1, 1, reach_at(g, before), heights);
     }
+    if Grid::is_void(heights[behind]) {
+        fill_run(g, behind, behind + 1, 1, reach_at(g, behind), heights);
+    }
+    heights[i] = floor_mean(heights[before], heights[behind]);
 }
 
 // The points at the places from, from + step, .. below to.
 fn fill_run(g: Grid, from: usize, to: usize, step: usize, reach: usize, heights: &mut [i16])
     requires { ⌜ Ready g (now heights) × Run (g .m) from to step reach ⌝ }
-    ensures { λ _. ⌜ Partly (g .m) (now (heights .entry)) (now (heights .exit)) ⌝ }
+    ensures { λ _. ⌜ Swept (g .m) (now (heights .entry)) (now (heights .exit)) (RunFilled (now (heights .exit)) from to step) ⌝ }
 {
     let mut i = from;
     while i < to {
-        fill_at(g, i, reach, heights);
+        if Grid::is_void(heights[i]) {
+            fill_void(g, i, reach, heights);
+        }
         i += step;
     }
 }
@@ -38,7 +40,7 @@ fn fill_run(g: Grid, from: usize, to: usize, step: usize, reach: usize, heights:
 // The rows at even numbers of spacings: edge points with ends to the west and east.
 fn fill_even_rows(g: Grid, s: usize, heights: &mut [i16])
     requires { ⌜ Ready g (now heights) × Power (g .m) s ⌝ }
-    ensures { λ _. ⌜ Partly (g .m) (now (heights .entry)) (now (heights .exit)) ⌝ }
+    ensures { λ _. ⌜ Swept (g .m) (now (heights .entry)) (now (heights .exit)) (RowsFilled (g .m) (now (heights .exit)) s 0) ⌝ }
 {
     let row = (g.side as usize) + 1;
     let mut y = 0;
@@ -52,7 +54,7 @@ fn fill_even_rows(g: Grid, s: usize, heights: &mut [i16])
 // Edge points with ends to the south and north, and centres, whose diagonals change from one to the next.
 fn fill_odd_row(g: Grid, s: usize, y: usize, reach: usize, heights: &mut [i16])
     requires { ⌜ Ready g (now heights) × Power (g .m) s × Row s 1 y × Spread (g .m) (at s y) reach ⌝ }
-    ensures { λ _. ⌜ Partly (g .m) (now (heights .entry)) (now (heights .exit)) ⌝ }
+    ensures { λ _. ⌜ Swept (g .m) (now (heights .entry)) (now (heights .exit)) (RowFilled (g .m) (now (heights .exit)) s 1 y) ⌝ }
 {
     let row = (g.side as usize) + 1;
     let at = y * row;
@@ -65,7 +67,7 @@ fn fill_odd_row(g: Grid, s: usize, y: usize, reach: usize, heights: &mut [i16])
 // So do the diagonals of the first centres, from row to row.
 fn fill_odd_rows(g: Grid, s: usize, heights: &mut [i16])
     requires { ⌜ Ready g (now heights) × Power (g .m) s ⌝ }
-    ensures { λ _. ⌜ Partly (g .m) (now (heights .entry)) (now (heights .exit)) ⌝ }
+    ensures { λ _. ⌜ Swept (g .m) (now (heights .entry)) (now (heights .exit)) (RowsFilled (g .m) (now (heights .exit)) s 1) ⌝ }
 {
     let row = (g.side as usize) + 1;
     let up = s * row;
@@ -81,7 +83,7 @@ fn fill_odd_rows(g: Grid, s: usize, heights: &mut [i16])
 // From the coarsest spacing to the finest, so that the ends of every void are filled before it.
 pub(crate) fn fill_spacings(g: Grid, heights: &mut [i16])
     requires { ⌜ Ready g (now heights) ⌝ }
-    ensures { λ _. ⌜ Partly (g .m) (now (heights .entry)) (now (heights .exit)) ⌝ }
+    ensures { λ _. ⌜ Swept (g .m) (now (heights .entry)) (now (heights .exit)) (NoVoid (now (heights .exit))) ⌝ }
 {
     let mut s = (g.side as usize) / 2;
     while s > 0 {

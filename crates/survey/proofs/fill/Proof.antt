@@ -1,14 +1,14 @@
--- `survey::fill` meets its contract: what was partly filled has the heights of the survey.
-use mathlib.Core.Path.{_≡_, ap, _∙_, subst, subst⁻¹}
+-- `survey::fill` meets its contract: what the sweep leaves has no void, and so is filled.
+use mathlib.Core.Path.{_≡_, _∙_, subst, subst⁻¹}
 use mathlib.Core.List.{List}
 use lib.ListN.{length}
 use lib.IntN.{ℤ}
 use Rattle.grid.specs.Grid.{Sound, samples}
 use Rattle.grid.specs.declared.Grid.{Grid}
-use Rattle.survey.specs.Filled.{filled, CornersSurveyed}
+use Rattle.survey.specs.Filled.{CornersSurveyed}
 use Rattle.survey.specs.Inner.{Ready, NoVoid}
-use Rattle.survey.proofs.Partial.{partly-none, ready-on}
-use Rattle.survey.proofs.Sweep.{partly-filled, none-left}
+use Rattle.survey.proofs.Partial.{partly-none}
+use Rattle.survey.proofs.Sweep.{none-left}
 use borrow.Author.Needs.{needs}
 use Rattle.survey.proofs.fill.Statement.{statement}
 use Rattle.survey.proofs.fill.Tie as tie
@@ -28,21 +28,17 @@ fill-spacings-requires : tie.Need-fill-spacings-requires
 fill-spacings-requires c κs =
     let s = c .before .before .before .before .before .before .before in copied (c .before .before .before .before .before .copy .ensures .same) (s .pre .0) (s .pre .1) (s .pre .3)
 
-fill-left-requires : tie.Need-fill-left-requires
-fill-left-requires c κs =
-    let s = c .before .before .before .before .before .before .before .before .before .before in
-    ready-on (copied (c .before .before .before .before .before .before .before .before .copy .ensures .same) (s .pre .0) (s .pre .1) (s .pre .3)) (c .before .before .fill-spacings .ensures)
-
 same-length : tie.Need-same-length
 same-length c = search needs
 
 returns : tie.Need-returns
 returns c =
-    let s = c .before .before .before .before .before .before .before .before .before .before .before .before in
-    let copied = c .before .before .before .before .before .before .before .before .before .before .copy .ensures in
+    let s = c .before .before .before .before .before .before .before .before .before in
+    let from = c .before .before .before .before .before .before .before .copy .ensures in
+    let swept = c .before .fill-spacings .ensures in
     record {
-      is = c .before .fill-left .ensures ∙ partly-filled (s .args .g .m) _ _ (c .before .before .before .before .fill-spacings .ensures) ∙ ap (filled (s .args .g .m)) (copied .same);
-      sixteen = copied .sixteen;
+      is = none-left (s .args .g .m) _ _ (s .pre .1) (rw (from .same) at (swept .partly)) (swept .stand);
+      sixteen = from .sixteen;
     }
 
 same-length-2 : tie.Need-same-length-2
@@ -51,10 +47,12 @@ same-length-2 c = search needs
 returns-2 : tie.Need-returns-2
 returns-2 c =
     let s = c .before .before .before .before .before .before in
-    let copied = c .before .before .before .before .copy .ensures in
-    let same = copied .same in
+    let from = c .before .before .before .before .copy .ensures in
     let none = c .before .has-void .ensures (c .if1 .left) in
-    record { is = same ∙ none-left (s .args .g .m) _ _ (s .pre .1) (partly-none _ _) (subst NoVoid same none); sixteen = copied .sixteen }
+    record {
+      is = from .same ∙ none-left (s .args .g .m) _ _ (s .pre .1) (partly-none _ _) (subst NoVoid (from .same) none);
+      sixteen = from .sixteen;
+    }
 
 pub fill-spec : {M : Type 1} → statement M
 fill-spec =
@@ -63,7 +61,6 @@ fill-spec =
     copy-requires
     has-void-requires
     fill-spacings-requires
-    fill-left-requires
     same-length
     returns
     same-length-2

@@ -1,18 +1,16 @@
 -- `survey::has_void` meets its contract. The invariant: with none found so far, no entry before i is void.
-use mathlib.Core.Path.{_≡_, sym, ap, _∙_}
-use mathlib.Core.Bool.{Bool, false, _||_}
+use mathlib.Core.Path.{_≡_, refl, ap, _∙_}
+use mathlib.Core.Bool.{Bool, true, false, true≢false, _||_}
 use mathlib.Core.List.{List}
 use Prim.Native.Nat.{ℕ, _+_, _-_, _≤_, _<_}
 use native.Mathlib.Decide.{ℕ-discrete}
 use native.Mathlib.Omega.{arith}
 use lib.ListN.{length, getD}
 use lib.IntN.{ℤ, pos}
-use mir.Facts.{toZ-ofZ}
 use mir.Syntax.{w16}
 use mir.Val.{SFits, toZ, ofZ}
 use Rattle.grid.specs.Grid.{void, isVoid}
-use Rattle.grid.proofs.OnGrid.{any-default}
-use Rattle.survey.proofs.Finding.{neither}
+use Rattle.survey.proofs.Reading.{tested}
 use borrow.Author.Needs.{needs}
 use Rattle.survey.proofs.has_void.Statement.{statement}
 use Rattle.survey.proofs.has_void.Tie as tie
@@ -27,16 +25,18 @@ Inv-loop heights any₀ i₀ any i = (i ≤ length heights) × (any ≡ false �
 abbrev μ-loop : tie.MeasureT-loop
 μ-loop heights any₀ i₀ any i = length heights - i
 
+-- of two tests neither says yes
+neither : (a b : Bool) → (a || b) ≡ false → (a ≡ false) × (b ≡ false)
+neither false b e = (refl, e)
+neither true b e = absurd (true≢false e)
+
 one-more : (heights : List ℤ) (i : ℕ) {any here : Bool} → i < length heights → SFits w16 (getD heights i (pos 0)) →
     here ≡ isVoid (toZ w16 (ofZ w16 (getD heights i (pos 0)))) → (any ≡ false → Clear heights i) → (any || here) ≡ false → Clear heights (i + 1)
 one-more heights i {any} {here} l fits told before e k h = go (ℕ-discrete k i)
   where
     go : Dec (k ≡ i) → isVoid (getD heights k void) ≡ false
     go (yes same) =
-        ap (λ (n : ℕ). isVoid (getD heights n void)) same
-        ∙ ap isVoid (sym (toZ-ofZ fits ∙ any-default heights i (pos 0) void l))
-        ∙ sym told
-        ∙ neither any here e .1
+        ap (λ (n : ℕ). isVoid (getD heights n void)) same ∙ tested heights l fits told (neither any here e .1)
     go (no other) = before (neither any here e .0) k (omega arith)
 
 loop-holds : tie.Need-loop-holds Inv-loop μ-loop

@@ -1,7 +1,7 @@
 -- `survey::spacings::fill_odd_row` meets its contract: its edge points are a run, its centres are two.
 use native.Mathlib.Omega.{arith}
-use Rattle.survey.proofs.Partial.{partly-then, ready-on}
-use Rattle.survey.proofs.Runs.{small, odd-run, reach-small, first-run, second-run}
+use Rattle.survey.proofs.Partial.{ready-on}
+use Rattle.survey.proofs.Runs.{small, odd-run, reach-small, first-run, second-run, odd-swept}
 use borrow.Author.Needs.{needs}
 use Rattle.survey.proofs.spacings.fill_odd_row.Statement.{statement}
 use Rattle.survey.proofs.spacings.fill_odd_row.Tie as tie
@@ -45,7 +45,7 @@ mul-fill-run-2 c = search needs
 fill-run-requires-2 : tie.Need-fill-run-requires-2
 fill-run-requires-2 c κs =
     let s = c .before .before .before .before .before in
-    (ready-on (s .pre .0) (c .before .before .fill-run .ensures), first-run (s .pre .0 .sound) (s .pre .1) (s .pre .2) (s .pre .3))
+    (ready-on (s .pre .0) (c .before .before .fill-run .ensures .partly), first-run (s .pre .0 .sound) (s .pre .1) (s .pre .2) (s .pre .3))
 
 mul-fill-run-3 : tie.Need-mul-fill-run-3
 mul-fill-run-3 c = search needs
@@ -72,7 +72,7 @@ sub-fill-run c =
 fill-run-requires-3 : tie.Need-fill-run-requires-3
 fill-run-requires-3 c κs =
     let s = c .before .before .before .before .before .before .before .before in
-    let ready = ready-on (ready-on (s .pre .0) (c .before .before .before .before .before .fill-run .ensures)) (c .before .before .fill-run2 .ensures) in
+    let ready = ready-on (ready-on (s .pre .0) (c .before .before .before .before .before .fill-run .ensures .partly)) (c .before .before .fill-run2 .ensures .partly) in
     (ready, second-run (s .pre .0 .sound) (s .pre .1) (s .pre .2) (s .pre .3))
 
 same-length : tie.Need-same-length
@@ -80,7 +80,8 @@ same-length c = search needs
 
 returns : tie.Need-returns
 returns c =
-    partly-then _ _ _ _ (partly-then _ _ _ _ (c .before .before .before .before .before .before .before .fill-run .ensures) (c .before .before .before .before .fill-run2 .ensures)) (c .before .fill-run3 .ensures)
+    let s = c .before .before .before .before .before .before .before .before .before .before in
+    odd-swept (s .pre .0 .sound) (s .pre .1) (s .pre .2) (s .pre .3) (c .before .before .before .before .before .before .before .fill-run .ensures) (c .before .before .before .before .fill-run2 .ensures) (c .before .fill-run3 .ensures)
 
 pub fill-odd-row-spec : {M : Type 1} → statement M
 fill-odd-row-spec =

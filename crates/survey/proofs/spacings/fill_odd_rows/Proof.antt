@@ -1,10 +1,10 @@
--- `survey::spacings::fill_odd_rows` meets its contract. The invariant: the heights are partly filled.
+-- `survey::spacings::fill_odd_rows` meets its contract. The invariant: the heights are partly filled, and the rows behind are.
 use Prim.Native.Nat.{_-_, _≤_}
 use native.Mathlib.Omega.{arith}
 use Rattle.grid.specs.Grid.{side}
 use Rattle.survey.specs.Inner.{Partly}
 use Rattle.survey.proofs.Partial.{partly-none, partly-then, ready-on}
-use Rattle.survey.proofs.Rows.{OddRow, odd-first, odd-spread, odd-on}
+use Rattle.survey.proofs.Rows.{OddRow, odd-first, odd-spread, odd-on, passed-last}
 use Rattle.survey.proofs.Runs.{Small, small, reach-small}
 use borrow.Author.Needs.{needs}
 use Rattle.survey.proofs.spacings.fill_odd_rows.Statement.{statement}
@@ -14,7 +14,7 @@ use Rattle.survey.proofs.spacings.fill_odd_rows.Lts as lts
 use Rattle.survey.proofs.spacings.fill_odd_row.Reads as row-reads
 
 abbrev Inv-loop : tie.InvT-loop
-Inv-loop g s heights₀ row up reach₀ y₀ heights reach y = Partly (g .m) heights₀ heights × OddRow (g .m) s y reach
+Inv-loop g s heights₀ row up reach₀ y₀ heights reach y = Partly (g .m) heights₀ heights × OddRow (g .m) heights s y reach
 
 abbrev μ-loop : tie.MeasureT-loop
 μ-loop g s heights₀ row up reach₀ y₀ heights reach y = row - y
@@ -34,7 +34,7 @@ add-reach c =
     let s = c .before in record { fits = omega (arith, small {y = 0} (s .pre .0 .sound) (s .pre .1) (omega arith)) }
 
 loop-holds : tie.Need-loop-holds Inv-loop μ-loop
-loop-holds c = let s = c .before in (partly-none _ _, odd-first (s .pre .1) (rw (s .pre .0 .sound .sided)))
+loop-holds c = let s = c .before in (partly-none _ _, odd-first (s .pre .1) _ (rw (s .pre .0 .sound .sided)))
 
 -- where a row is begun
 abbrev Begun : Type 0
@@ -53,7 +53,7 @@ fill-odd-row-requires : tie.Need-fill-odd-row-requires Inv-loop μ-loop
 fill-odd-row-requires c κs =
     let s = c .before .before .before .before in
     let here = c .before .before .loop .inv in
-    (ready-on (s .pre .0) (here .0), s .pre .1, here .1 .row, odd-spread (s .pre .1) (here .1) (inside (c .before)))
+    (ready-on (s .pre .0) (here .0), s .pre .1, here .1 .passed .row, odd-spread (s .pre .1) (here .1) (inside (c .before)))
 
 mul-reach : tie.Need-mul-reach Inv-loop μ-loop
 mul-reach c = record { fits = omega (arith, sums (c .before .before .before)) }
@@ -62,7 +62,7 @@ sub-reach : tie.Need-sub-reach Inv-loop μ-loop
 sub-reach c =
     let s = c .before .before .before .before .before .before in
     let here = c .before .before .before .before .loop .inv .1 in
-    reach-small (s .pre .0 .sound) (s .pre .1) (here .row) (odd-spread (s .pre .1) here (inside (c .before .before .before)))
+    reach-small (s .pre .0 .sound) (s .pre .1) (here .passed .row) (odd-spread (s .pre .1) here (inside (c .before .before .before)))
 
 mul-y : tie.Need-mul-y Inv-loop μ-loop
 mul-y c = record { fits = omega (arith, sums (c .before .before .before)) }
@@ -77,13 +77,17 @@ loop-again : tie.Need-loop-again Inv-loop μ-loop
 loop-again c =
     let s = c .before .before .before .before .before .before in
     let here = c .before .before .before .before .loop .inv in
-    (partly-then _ _ _ _ (here .0) (c .before .fill-odd-row .ensures), rw (s .pre .0 .sound .sided) (odd-on (s .pre .1) (here .1)))
+    let row = c .before .fill-odd-row .ensures in
+    (partly-then _ _ _ _ (here .0) (row .partly), rw (s .pre .0 .sound .sided) (odd-on (s .pre .1) (here .1) row))
 
 same-length : tie.Need-same-length Inv-loop μ-loop
 same-length c = c .before .loop .inv .0 .long
 
 returns : tie.Need-returns Inv-loop μ-loop
-returns c = c .before .loop .inv .0
+returns c =
+    let s = c .before .before .before in
+    let here = c .before .loop .inv in
+    record { partly = here .0; stand = passed-last (here .1 .passed) (omega (arith, c .loop-test .left, s .pre .0 .sound .sided)) }
 
 pub fill-odd-rows-spec : {M : Type 1} → statement M
 fill-odd-rows-spec =
