@@ -1,163 +1,15 @@
-// Reads a frame from standard input and prints its triangles, or its refusal.
+// Reads a frame from standard input and prints its triangles, or its refusal. What it prints is proved in `listing`; here is only input and output.
 use frame::Frame;
-use grid::refusals::Refusal;
 use libc::STDIN_FILENO;
 use libc::STDOUT_FILENO;
-use mesh::Meshed;
 ghost use mathlib.Core.Path.{_≡_};
-ghost use mathlib.Core.List.{[], _∷_, _++_};
-ghost use Prim.Native.Nat.{suc, _+_, _*_, _≤_};
-ghost use lib.ListN.{length, take};
-ghost use Rattle.grid.specs.Sizes.{sizeOf};
+ghost use Prim.Native.Nat.{suc};
+ghost use lib.ListN.{length};
 ghost use Rattle.io.specs.Counts.{Counts};
-ghost use Rattle.frame.specs.Frame.{longest, largest};
-ghost use Rattle.mesh.specs.Meshed.{entriesEach};
-ghost use Rattle.meshprint.specs.Program.{Prints};
-ghost use Rattle.meshprint.specs.Text.{lineFeed, decimalOf, lineAt, textIn};
-ghost use Rattle.meshprint.specs.Inner.{Roomy, Ready, mostDigits, lineRoom, RoomyFor, Puts, PutsText};
+ghost use Rattle.frame.specs.Frame.{longest};
 
-// Each triangle takes three entries, and a frame has at most 2N² triangles.
-const ENTRIES_EACH: usize = 3;
-
-const MOST_ENTRIES: usize = ENTRIES_EACH * (2 * Frame::WIDEST * Frame::WIDEST);
-
-// Room for a line: three numbers of at most ten digits, a byte behind each. There is a first line, and one for each triangle.
-const LINE: usize = 33;
-
-const MOST_BYTES: usize = LINE * (1 + 2 * Frame::WIDEST * Frame::WIDEST);
-
-const SPACE: u8 = b' ';
-
-const LINE_FEED: u8 = b'\n';
-
-fn refused(refusal: u32) -> Meshed
-    ensures { λ r. ⌜ r ≡ record { refusal = refusal; triangles = 0 } ⌝ }
-{
-    Meshed {
-        refusal,
-        triangles: 0,
-    }
-}
-
-fn mesh_in(
-    input: &[u8],
-    m: u32,
-    tolerance: u32,
-    survey: &mut [i16],
-    marks: &mut [u8],
-    heights: &mut [i16],
-    places: &mut [u16],
-) -> Meshed
-    requires { ⌜ Ready (now input) m tolerance (now survey) (now marks) (now heights) × Roomy (now places) ⌝ }
-    ensures { λ r. ⌜ Prints (now (input .entry)) (now (places .entry)) r (now (places .exit)) ⌝ }
-{
-    frame::heights(input, survey);
-    let selected = selection::select(survey, m, tolerance, marks, heights);
-    if selected.refusal != Refusal::ACCEPTED {
-        return refused(selected.refusal);
-    }
-    mesh::triangles(marks, m, places)
-}
-
-fn mesh_of(input: &[u8], places: &mut [u16]) -> Meshed
-    requires { ⌜ Roomy (now places) ⌝ }
-    ensures { λ r. ⌜ Prints (now (input .entry)) (now (places .entry)) r (now (places .exit)) ⌝ }
-{
-    let frame = frame::read(input);
-    if frame.refusal != Refusal::ACCEPTED {
-        return refused(frame.refusal);
-    }
-    let size = grid::sizes::size_of(frame.m).size;
-    let n = size.samples as usize;
-    let mut survey = [0i16; Frame::MOST_SAMPLES];
-    let mut marks = [0u8; Frame::MOST_SAMPLES];
-    let mut heights = [0i16; Frame::MOST_SAMPLES];
-    mesh_in(
-        input,
-        frame.m,
-        frame.tolerance,
-        &mut survey[..n],
-        &mut marks[..n],
-        &mut heights[..n],
-        places,
-    )
-}
-
-// Writes bytes from an index on, and answers the index behind them.
-fn put(out: &mut [u8], from: usize, bytes: &[u8]) -> usize
-    requires { ⌜ from + length (now bytes) ≤ length (now out) ⌝ }
-    ensures { λ r. ⌜ Puts (length (now (bytes .entry))) (now (out .entry)) from (now (bytes .entry)) (now (out .exit)) r ⌝ }
-{
-    let mut i = 0;
-    while i < bytes.len() {
-        out[from + i] = bytes[i];
-        i += 1;
-    }
-    from + i
-}
-
-// A number, and the byte behind it.
-fn put_number(out: &mut [u8], from: usize, number: u32, after: u8) -> usize
-    requires { ⌜ from + suc mostDigits ≤ length (now out) ⌝ }
-    ensures { λ r. ⌜ Puts (suc mostDigits) (now (out .entry)) from (decimalOf number ++ after ∷ []) (now (out .exit)) r ⌝ }
-{
-    let mut digits = [0u8; 20];
-    let n = io::decimal(number as u64, &mut digits);
-    let behind = put(out, from, &digits[..n]);
-    out[behind] = after;
-    behind + 1
-}
-
-fn wide(place: u16) -> u32
-    ensures { λ r. ⌜ r ≡ place ⌝ }
-{
-    place as u32
-}
-
-// The triangle written from an entry on.
-fn put_triangle(out: &mut [u8], from: usize, places: &[u16], i: usize) -> usize
-    requires { ⌜ (from + lineRoom ≤ length (now out)) × (i + entriesEach ≤ length (now places)) ⌝ }
-    ensures { λ r. ⌜ Puts lineRoom (now (out .entry)) from (lineAt (now (places .entry)) i) (now (out .exit)) r ⌝ }
-{
-    let second = put_number(out, from, wide(places[i]), SPACE);
-    let third = put_number(out, second, wide(places[i + 1]), SPACE);
-    put_number(out, third, wide(places[i + 2]), LINE_FEED)
-}
-
-// The first line: a word, and a number.
-fn put_first(out: &mut [u8], word: &[u8], number: u32) -> usize
-    requires { ⌜ (length (now word) + suc mostDigits ≤ lineRoom) × (lineRoom ≤ length (now out)) ⌝ }
-    ensures { λ r. ⌜ Puts lineRoom (now (out .entry)) 0 (now (word .entry) ++ (decimalOf number ++ lineFeed ∷ [])) (now (out .exit)) r ⌝ }
-{
-    let behind = put(out, 0, word);
-    put_number(out, behind, number, LINE_FEED)
-}
-
-fn put_text(out: &mut [u8], refusal: u32, triangles: u32, places: &[u16]) -> usize
-    requires { ⌜ RoomyFor triangles (now out) × (entriesEach * triangles ≤ length (now places)) ⌝ }
-    ensures { λ r. ⌜ PutsText (record { refusal = refusal; triangles = triangles }) (now (places .entry)) (now (out .entry)) (now (out .exit)) r ⌝ }
-{
-    if refusal != Refusal::ACCEPTED {
-        return put_first(out, b"refused ", refusal);
-    }
-    let mut end = put_first(out, b"T ", triangles);
-    let mut i: u32 = 0;
-    while i < triangles {
-        end = put_triangle(out, end, places, ENTRIES_EACH * (i as usize));
-        i += 1;
-    }
-    end
-}
-
-// Writes what is to be printed of the input, and answers how many bytes that is.
-fn text_of(input: &[u8], places: &mut [u16], out: &mut [u8]) -> usize
-    requires { ⌜ Roomy (now places) × RoomyFor (sizeOf largest .triangles) (now out) ⌝ }
-    ensures { λ r. ⌜ Counts r (now (out .exit)) ⌝ }
-    ensures { λ r. ⌜ take r (now (out .exit)) ≡ textIn (now (input .entry)) (now (places .entry)) ⌝ }
-{
-    let answer = mesh_of(input, places);
-    put_text(out, answer.refusal, answer.triangles, places)
-}
+// A call that moves nothing is made again so often, for a minute or more: a loop has to end.
+const MOST_TRIES: u32 = 1 << 26;
 
 // One byte more than the longest frame has, so that a longer input is seen to be longer.
 fn room() -> [u8; Frame::LONGEST + 1]
@@ -166,11 +18,74 @@ fn room() -> [u8; Frame::LONGEST + 1]
     [0; Frame::LONGEST + 1]
 }
 
+// Whether a call that failed may move something later: a signal came first, or the descriptor does not wait.
+fn may_try_again() -> bool {
+    let error = os::errno();
+    if error == libc::EAGAIN {
+        libc::sched_yield();
+        return true;
+    }
+    error == libc::EINTR
+}
+
+fn read_some(part: &mut [u8]) -> isize {
+    let mut got = libc::read(STDIN_FILENO, part);
+    let mut tries = MOST_TRIES;
+    while got < 0 && tries > 0 && may_try_again() {
+        tries -= 1;
+        got = libc::read(STDIN_FILENO, part);
+    }
+    got
+}
+
+fn write_some(part: &[u8]) -> isize {
+    let mut put = libc::write(STDOUT_FILENO, part);
+    let mut tries = MOST_TRIES;
+    while put < 0 && tries > 0 && may_try_again() {
+        tries -= 1;
+        put = libc::write(STDOUT_FILENO, part);
+    }
+    put
+}
+
+// Reads until the input ends or there is no more room, and answers how many bytes came. Of an input that can't be read to its end it
+// answers none: it is no frame, whatever came of it.
+fn read_input(input: &mut [u8]) -> usize
+    ensures { λ r. ⌜ Counts r (now (input .exit)) ⌝ }
+{
+    let mut done = 0;
+    while done < input.len() {
+        let got = read_some(&mut input[done..]);
+        if got < 0 {
+            os::fail(b"meshprint: standard input");
+            return 0;
+        }
+        let more = io::count(got, &input[done..]);
+        if more == 0 {
+            return done;
+        }
+        done += more;
+    }
+    done
+}
+
+fn write_text(text: &[u8]) {
+    let mut done = 0;
+    while done < text.len() {
+        let put = write_some(&text[done..]);
+        let more = io::count(put, &text[done..]);
+        if more == 0 {
+            os::fail(b"meshprint: standard output");
+            return;
+        }
+        done += more;
+    }
+}
+
 fn main() {
     let mut input = room();
-    let n = io::read_full(STDIN_FILENO, &mut input);
-    let mut places = [0u16; MOST_ENTRIES];
-    let mut out = [0u8; MOST_BYTES];
-    let k = text_of(&input[..n], &mut places, &mut out);
-    io::write_all(STDOUT_FILENO, &out[..k]);
+    let n = read_input(&mut input);
+    let mut out = [0u8; listing::MOST_BYTES];
+    let k = listing::text_of(&input[..n], &mut out);
+    write_text(&out[..k]);
 }

@@ -1,0 +1,10 @@
+pub mod Cases
+pub mod Enough
+pub mod Steps
+pub mod Rule
+pub mod Promised
+pub mod Prefix
+pub mod Joined
+pub mod Spelt
+pub mod Room
+pub mod Values
