@@ -47,6 +47,7 @@ OMEGA = re.compile(r"`omega`: [^`]*(?:`[^`]*`[^`]*)?does not follow from what it
 ENDS = re.compile(r"what it leaves must be a path whose two ends are equal, and `.*` is none")
 HOLDS = re.compile(r"`[^`]*` ≟ `[^`]*`: does not hold")
 HAS = re.compile(r"expected type `([^`]*)`,? but this has type `([^`]*)`")
+BEGINS = re.compile(r"computed as far as it goes, the (expected|found) one begins `([^`]*)`")
 
 
 def named(term):
@@ -77,7 +78,8 @@ def failed_fact(error):
     # what was learnt from a call is not what is claimed
     if named(both[2]) == "Learnt":
         return not both[1].startswith(("lts.", "tie."))
-    return relation(both[1]) is not None and relation(both[1]) == relation(both[2])
+    claims = {"expected": both[1], "found": both[2], **dict(BEGINS.findall(error))}
+    return relation(claims["expected"]) is not None and relation(claims["expected"]) == relation(claims["found"])
 
 
 def refusal_fault(log):
