@@ -2,10 +2,10 @@
 -- lines are read from the places that were written alone: so what is printed does not depend on what the buffer held before.
 use mathlib.Core.Path.{_≡_, refl, sym, ap, _∙_}
 use mathlib.Core.List.{List, _++_}
-use Prim.Native.Nat.{ℕ, zero, suc, _+_, _*_, _≤_}
+use Prim.Native.Nat.{ℕ, zero, suc, _+_, _*_, _≤_, _<_}
 use native.Mathlib.Omega.{arith}
 use native.Mathlib.Decide.{ℕ-discrete}
-use lib.ListN.{length, drop, List·getD-append}
+use lib.ListN.{length, getD, drop, List·getD-append}
 use Rattle.grid.specs.Refusal.{accepted}
 use Rattle.grid.specs.Sizes.{sizeOf}
 use Rattle.frame.specs.Frame.{largest, sizeIn}
@@ -16,8 +16,8 @@ use Rattle.mesh.specs.declared.Meshed.{Meshed}
 use Rattle.mesh.proofs.Rule.{AsRead, as-read, told}
 use Rattle.mesh.proofs.Halves.{put-over}
 use Rattle.mesh.proofs.Written.{places-long}
-use Rattle.listing.specs.Program.{refusal, keptIn, answerIn, placesIn}
-use Rattle.listing.specs.Text.{lineOf, decimalOf, lineAt, linesOf, textOf, textIn, Prints}
+use Rattle.listing.specs.Program.{refusal, keptIn, placesIn}
+use Rattle.listing.specs.Text.{lineAt, linesOf, textOf, textIn, Prints}
 use Rattle.listing.specs.Inner.{Roomy, Lists, Puts}
 use Rattle.listing.proofs.Cases.{answer-refused, answer-refusal, places-taken, formed}
 use Rattle.listing.proofs.Enough.{meshed, triangles-most}
@@ -27,7 +27,10 @@ use Rattle.listing.proofs.Steps.{lists-meshes}
 -- a line, and so many lines, are read from the entries in front
 line-front : (front behind : List ℕ) (i : ℕ) → i + entriesEach ≤ length front → lineAt (front ++ behind) i ≡ lineAt front i
 line-front front behind i l =
-    rw (List·getD-append front behind 0 i (omega arith), List·getD-append front behind 0 (i + 1) (omega arith), List·getD-append front behind 0 (i + 2) (omega arith))
+    let here : (n : ℕ) → n < entriesEach → getD (front ++ behind) (i + n) 0 ≡ getD front (i + n) 0 =
+    λ n k. List·getD-append front behind 0 (i + n) (omega arith) in
+    let first : getD (front ++ behind) i 0 ≡ getD front i 0 = List·getD-append front behind 0 i (omega arith) in
+    rw (first, here 1 (omega arith), here 2 (omega arith))
 
 lines-front : (front behind : List ℕ) (n : ℕ) → entriesEach * n ≤ length front → linesOf n (front ++ behind) ≡ linesOf n front
 unfolding linesOf

@@ -29,7 +29,7 @@ use Rattle.mesh.specs.Meshed.{entriesEach, writtenOver, Meshes}
 use Rattle.mesh.specs.Meshed.{handed as meshing}
 use Rattle.mesh.specs.declared.Meshed.{Meshed}
 use Rattle.listing.specs.Program.{selected, refusal, answerIn, placesIn}
-use Rattle.listing.specs.Text.{textIn}
+use Rattle.listing.specs.Text.{textOf, textIn}
 use Rattle.listing.specs.Inner.{Roomy, Ready, Lists}
 use Rattle.listing.specs.Rule.{Refuses, Selecting, Runs, form, selection, triangles, Shows}
 use Rattle.listing.proofs.Cases.{turnedDown, refusal-form, refusal-selection, answer-refused, answer-refusal, places-refused}
@@ -136,6 +136,11 @@ runs-lists {input} {places} room (triangles k e c z t) = meshed-in (ready k e c)
 
 pub runs : {input places : List ℕ} {r : Meshed} {places′ : List ℕ} → Roomy places → Lists input places r places′ ↔ Runs input places r places′
 runs room = (lists-runs room, runs-lists room)
+
+-- what is printed of two runs is the same, whatever their places held
+pub runs-alike : {input a b : List ℕ} → Roomy a → Roomy b → {r s : Meshed} {a′ b′ : List ℕ} → Runs input a r a′ → Runs input b s b′ →
+    textOf r a′ ≡ textOf s b′
+runs-alike roomA roomB p q = text-listed roomA (runs-lists roomA p) ∙ sym (text-listed roomB (runs-lists roomB q))
 
 -- every input shows its text, whatever places with room held before
 pub text-shows-over : (input places : List ℕ) → Roomy places → Shows input (textIn input)

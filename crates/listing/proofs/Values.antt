@@ -1,6 +1,6 @@
 -- Values of document 01, computed from the definitions: what is printed of the program's sample, to the byte, and each refusal of the program, with what else was
 -- wrong beside it.
-use mathlib.Core.Path.{_≡_, refl}
+use mathlib.Core.Path.{_≡_, refl, _∙_}
 use mathlib.Core.List.{List, [], _∷_, _++_, map}
 use Prim.Native.Nat.{ℕ, _*_, _-_}
 use lib.ListN.{replicate}
@@ -17,6 +17,8 @@ use Rattle.frame.specs.Frame.{surveyIn}
 use Rattle.frame.specs.Frame.{refusal as formRefusal}
 use Rattle.listing.specs.Program.{refusal, answerIn, placesIn}
 use Rattle.listing.specs.Text.{digitsBy, decimalOf, linesOf, textOf, textIn}
+use Rattle.listing.specs.Rule.{Shows}
+use Rattle.listing.proofs.Rule.{shows-text}
 
 -- length 24, a version, an m, a tolerance of three bytes behind a zero, heights 0 10 0 / 0 0 0 / 0 0 and the last
 abbrev framed : ℕ → ℕ → ℕ → ℕ → ℕ → ℕ → List ℕ
@@ -67,15 +69,22 @@ unfolding answerIn placesIn refusal formRefusal selectionRefusal surveyIn onGrid
 refused = (refl, refl)
 
 -- all 34 bytes that are printed of the sample, line by line
-pub sample-text : textIn (framed 1 1 0 0 5 0)
-    ≡ (84 ∷ 32 ∷ 53 ∷ 10 ∷ [])
+abbrev sampleText : List ℕ
+sampleText =
+    (84 ∷ 32 ∷ 53 ∷ 10 ∷ [])
     ++ (48 ∷ 32 ∷ 49 ∷ 32 ∷ 52 ∷ 10 ∷ [])
     ++ (52 ∷ 32 ∷ 49 ∷ 32 ∷ 50 ∷ 10 ∷ [])
     ++ (56 ∷ 32 ∷ 52 ∷ 32 ∷ 50 ∷ 10 ∷ [])
     ++ (54 ∷ 32 ∷ 52 ∷ 32 ∷ 56 ∷ 10 ∷ [])
     ++ (48 ∷ 32 ∷ 52 ∷ 32 ∷ 54 ∷ 10 ∷ [])
+
+pub sample-text : textIn (framed 1 1 0 0 5 0) ≡ sampleText
 unfolding textOf linesOf digitsBy answerIn placesIn refusal formRefusal selectionRefusal cornerVoid surveyIn marksOf mark kept chain exceeding errorBy filled heightOf heightBy sample onGrid place point ends dependents kind units spacing level isCorner mesh uncut midpoint number
 sample-text = refl
+
+-- and the document's sentences show no other text of it, such as `refused 8`
+pub sample-only : {text : List ℕ} → Shows (framed 1 1 0 0 5 0) text → text ≡ sampleText
+sample-only s = shows-text s ∙ sample-text
 
 -- `refused 4`, and numbers of more digits than one
 pub refused-text : textIn (framed 1 1 1 0 0 0) ≡ 114 ∷ 101 ∷ 102 ∷ 117 ∷ 115 ∷ 101 ∷ 100 ∷ 32 ∷ 52 ∷ 10 ∷ []

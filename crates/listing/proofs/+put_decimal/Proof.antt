@@ -1,5 +1,5 @@
 -- `listing::put_decimal` meets its contract. The measure is the number, whose tenth part is less.
-use Prim.Native.Nat.{ℕ, _/_, _^_, _<_}
+use Prim.Native.Nat.{ℕ, _/_, _<_}
 use native.Mathlib.Omega.{arith}
 use borrow.Author.Needs.{needs}
 use borrow.Fn.Kinds.{In}
