@@ -5,9 +5,8 @@ use Prim.Native.Nat.{ℕ, suc, _+_, _-_, _*_, _%_, _≤_, _<_}
 use native.Mathlib.Nat.{mul-suc, mul-one, mul-add}
 use native.Mathlib.Omega.{arith}
 use Rattle.grid.specs.Grid.{side, at, Inside}
-use Rattle.grid.specs.Points.{level, spacing, units, isCorner, kind, ends, endsBy}
+use Rattle.grid.specs.Points.{level, spacing, units, isCorner, kind, ends, endsBy, Pair}
 use Rattle.grid.specs.declared.points.Point.{Point}
-use Rattle.grid.specs.declared.points.Pair.{Pair}
 use Rattle.grid.specs.declared.points.Kind.the-variants.{EastWest, NorthSouth, Rising, Falling}
 use Rattle.grid.proofs.Level.{level-largest}
 use Rattle.grid.proofs.Spaced.{east-units, north-units, level-below, twice-units}

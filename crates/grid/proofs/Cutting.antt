@@ -9,12 +9,11 @@ use native.Mathlib.Nat.{mul-add, mul-left-comm, mul-zero, pow-suc}
 use native.Mathlib.Omega.{arith}
 use Rattle.grid.specs.Grid.{side, at, Inside, midpoint}
 use Rattle.grid.specs.Points.{isCorner, kind, spacing, both, ends, endsBy, pair, dependsOn, rank}
-use Rattle.grid.specs.Inner.{Back}
 use Rattle.grid.specs.Hierarchy.{Triangle, first, second, firstHalf, secondHalf, Stage}
 use Rattle.grid.specs.declared.points.Point.{Point}
 use Rattle.grid.specs.declared.points.Kind.{Kind}
 use Rattle.grid.specs.declared.points.Kind.the-variants.{Corner, EastWest, NorthSouth, Rising, Falling}
-use Rattle.grid.proofs.Room.{room, behind}
+use Rattle.grid.proofs.Room.{room, Back, behind}
 use Rattle.grid.proofs.Sums.{odd-by, even-odd, double-sum, double-alike, close-same, close-half}
 use Rattle.grid.proofs.Units.{Times, Measured, Odd, Form, edge, centre, form, edge-odd, rank-edge, rank-centre}
 use Rattle.grid.proofs.Around.{Ended, Depended, twice-diagonal, Stands, edge-ended, edge-depended, centre-ended, centre-depended, same-point}

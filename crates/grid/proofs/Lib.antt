@@ -6,9 +6,7 @@ pub mod Places
 pub mod OnGrid
 pub mod Spaced
 pub mod Parity
-pub mod Near
 pub mod Room
-pub mod Sited
 pub mod Coarser
 pub mod Sums
 pub mod Units

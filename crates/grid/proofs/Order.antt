@@ -16,7 +16,6 @@ use Rattle.grid.specs.declared.points.Point.{Point}
 use Rattle.grid.specs.declared.points.Kind.{Kind}
 use Rattle.grid.proofs.Spaced.{spacing-positive}
 use Rattle.grid.proofs.Parity.{kind-corner, Sort, eastWest, northSouth, rising, falling, sort}
-use Rattle.grid.proofs.Near.{near-count}
 use Rattle.grid.proofs.Room.{Reach, Reached, room}
 use Rattle.grid.proofs.Members.{all, each-in}
 
@@ -63,6 +62,16 @@ near-span : (n s c : ℕ) → 0 < s → c ≤ n → Span (λ k. k) 0 (near n s c
 near-span n s c pos l =
     span-join {j = c} (chosen (leb s c) (omega arith) (λ e. omega (arith, leb-true s c e)))
     (chosen (leb (c + s) n) (omega arith) (λ e. omega (arith, leb-true (c + s) n e)))
+
+-- at most two numbers are near, so one point for each is at most two
+near-count : (laid-at : ℕ → Point) (n s c : ℕ) → length (each (λ a. laid-at a ∷ []) (near n s c)) ≤ 2
+near-count laid-at n s c = go (leb s c) (leb (c + s) n)
+  where
+    go : (t u : Bool) → length (each (λ a. laid-at a ∷ []) (cond t ((c - s) ∷ []) [] ++ cond u ((c + s) ∷ []) [])) ≤ 2
+    go true true = omega arith
+    go true false = omega arith
+    go false true = omega arith
+    go false false = omega arith
 
 module _ (m : ℕ) where
   -- a lower row has a lower place

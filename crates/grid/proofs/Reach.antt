@@ -4,9 +4,8 @@ use Prim.Native.Nat.{ℕ, _+_, _-_, _*_, _≤_}
 use native.Mathlib.Nat.{add-mul, sub-add-cancel, le-mul-of-pos-right}
 use native.Mathlib.Omega.{arith}
 use Rattle.grid.specs.Grid.{side, at, place}
-use Rattle.grid.specs.Points.{kind, spacing, ends, endsBy}
+use Rattle.grid.specs.Points.{kind, spacing, ends, endsBy, Pair}
 use Rattle.grid.specs.declared.points.Point.{Point}
-use Rattle.grid.specs.declared.points.Pair.{Pair}
 use Rattle.grid.specs.declared.points.Kind.{Kind}
 use Rattle.grid.specs.declared.points.Kind.the-variants.{Corner, EastWest, NorthSouth, Rising, Falling}
 use Rattle.grid.proofs.Room.{Reached, room}

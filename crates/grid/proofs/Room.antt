@@ -7,7 +7,6 @@ use native.Mathlib.Omega.{arith}
 use lib.Pow.{pow-mono}
 use Rattle.grid.specs.Grid.{side, Inside}
 use Rattle.grid.specs.Points.{spacing, units, isCorner, kind}
-use Rattle.grid.specs.Inner.{Back}
 use Rattle.grid.specs.declared.points.Point.{Point}
 use Rattle.grid.specs.declared.points.Kind.{Kind}
 use Rattle.grid.specs.declared.points.Kind.the-variants.{Corner, EastWest, NorthSouth, Rising, Falling}
@@ -62,6 +61,14 @@ module _ (m : ℕ) (p : Point) where
   pub room : Inside m p → Reached (kind m p) (side m) (spacing m p) (p .x) (p .y)
   unfolding Reaches
   room h = go h (isCorner m p) refl
+
+-- by kind: the line that it names reaches s back, so that no difference falls below zero
+abbrev pub Back : Kind → ℕ → ℕ → ℕ → Type 0
+Back Corner s x y = Unit {0}
+Back EastWest s x y = s ≤ x
+Back NorthSouth s x y = s ≤ y
+Back Rising s x y = (s ≤ x) × (s ≤ y)
+Back Falling s x y = (s ≤ x) × (s ≤ y)
 
 -- what is reached is reached backwards
 pub behind : (k : Kind) (n s x y : ℕ) → Reached k n s x y → Back k s x y

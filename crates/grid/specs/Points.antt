@@ -6,7 +6,6 @@ use Prim.Native.Nat.{ℕ, zero, suc, _+_, _-_, _*_, _^_, _/_, _%_}
 use lib.Dec.{eqb, leb}
 use Rattle.grid.specs.Grid.{side, at}
 use Rattle.grid.specs.declared.points.Point.{Point}
-use Rattle.grid.specs.declared.points.Pair.{Pair}
 use Rattle.grid.specs.declared.points.Units.{Units}
 use Rattle.grid.specs.declared.points.Site.{Site}
 use Rattle.grid.specs.declared.points.Kind.{Kind}
@@ -63,6 +62,11 @@ kind m p =
 -- what a point is, and how far away its ends lie
 unfoldable pub site : ℕ → Point → Site
 site m p = record { kind = kind m p; spacing = spacing m p }
+
+-- two points
+pub record Pair : Type 0 where
+  pub first : Point
+  pub second : Point
 
 abbrev pub pair : Point → Point → Pair
 pair p q = record { first = p; second = q }

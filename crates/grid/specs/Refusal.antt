@@ -1,8 +1,7 @@
 -- The refusal numbers. Document 01, "What a call may turn down". Definitions only.
-use mathlib.Core.List.{List, [], _∷_}
 use Prim.Native.Nat.{ℕ}
 
--- no refusal: the call is accepted
+-- at 0, which document 01 leaves free, no refusal: the call is accepted
 abbrev pub accepted : ℕ
 accepted = 0
 
@@ -42,8 +41,3 @@ noRoom = 8
 -- program only: input form
 abbrev pub inputForm : ℕ
 inputForm = 9
-
--- each at its own number; at 0, which document 01 leaves free, no refusal
-abbrev pub numbers : List ℕ
-numbers =
-    accepted ∷ sizeAbove ∷ wrongLength ∷ voidCorner ∷ toleranceAbove ∷ pointBeyond ∷ badMark ∷ notClosed ∷ noRoom ∷ inputForm ∷ []

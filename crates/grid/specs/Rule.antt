@@ -6,9 +6,8 @@ use mathlib.Core.List.{List, List·Memᴰ}
 use mathlib.Core.Logic.{_⊎_, _↔_}
 use Prim.Native.Nat.{ℕ, _+_, _*_, _^_, _/_, _%_, _≤_}
 use Rattle.grid.specs.Grid.{Inside}
-use Rattle.grid.specs.Points.{both}
+use Rattle.grid.specs.Points.{both, Pair}
 use Rattle.grid.specs.declared.points.Point.{Point}
-use Rattle.grid.specs.declared.points.Pair.{Pair}
 
 -- s is the largest power of two dividing both x and y (zero is divisible by all)
 pub record LargestPower (x y s : ℕ) : Type 0 where

@@ -1,6 +1,4 @@
 // The refusal numbers, each with its one name.
-ghost use mathlib.Core.Path.{_≡_};
-ghost use Rattle.grid.specs.Refusal.{numbers};
 
 pub struct Refusal {
     pub number: u32,
@@ -26,22 +24,4 @@ impl Refusal {
     pub const NO_ROOM: u32 = 8;
 
     pub const INPUT_FORM: u32 = 9;
-
-    // Every name has the number that the rules give it.
-    pub fn numbers() -> [u32; 10]
-        ensures { λ r. ⌜ r ≡ numbers ⌝ }
-    {
-        [
-            Refusal::ACCEPTED,
-            Refusal::SIZE_ABOVE,
-            Refusal::WRONG_LENGTH,
-            Refusal::VOID_CORNER,
-            Refusal::TOLERANCE_ABOVE,
-            Refusal::POINT_BEYOND,
-            Refusal::BAD_MARK,
-            Refusal::NOT_CLOSED,
-            Refusal::NO_ROOM,
-            Refusal::INPUT_FORM,
-        ]
-    }
 }

@@ -7,7 +7,6 @@ use lib.IntN.{ℤ}
 use denote.Ref.{now}
 use Rattle.grid.specs.declared.Grid.{Grid}
 use Rattle.grid.specs.declared.points.Point.{Point}
-use Rattle.grid.specs.declared.points.Site.{Site}
 use Rattle.grid.specs.declared.sizes.SizeAnswer.{SizeAnswer}
 use Rattle.grid.proofs.sizes.size_of.Reads as size-of
 use Rattle.selection.specs.declared.Selected.{Selected}
@@ -41,7 +40,7 @@ use Rattle.grid.proofs.marks.good.Reads as good
 use Rattle.grid.proofs.marks.kept.Reads as kept
 use Rattle.grid.proofs.marks.keeps.Reads as keeps
 use Rattle.grid.proofs.marks.filled.Reads as filled
-use Rattle.grid.proofs.points.site_of.Reads as site-of
+use Rattle.grid.proofs.points.reach_at.Reads as reach-at
 use Rattle.grid.proofs.points.reach_of.Reads as reach-of
 use Rattle.mesh.proofs.good.corners_good.Reads as corners-good
 use Rattle.mesh.proofs.cut.is_cut.Reads as is-cut
@@ -139,8 +138,8 @@ keeps-once k a r r′ o o′ p q = same p q
 pub filled-once : (k : _) (a : _) (r r′ : Bool) (o o′ : _) → filled.Learnt k a r o → filled.Learnt k a r′ o′ → r ≡ r′
 filled-once k a r r′ o o′ p q = same p q
 
-pub site-of-once : (k : _) (a : _) (r r′ : Site) (o o′ : _) → site-of.Learnt k a r o → site-of.Learnt k a r′ o′ → r ≡ r′
-site-of-once k a r r′ o o′ p q = same p q
+pub reach-at-once : (k : _) (a : _) (r r′ : ℕ) (o o′ : _) → reach-at.Learnt k a r o → reach-at.Learnt k a r′ o′ → r ≡ r′
+reach-at-once k a r r′ o o′ p q = same p q
 
 pub reach-of-once : (k : _) (a : _) (r r′ : ℕ) (o o′ : _) → reach-of.Learnt k a r o → reach-of.Learnt k a r′ o′ → r ≡ r′
 reach-of-once k a r r′ o o′ p q = same p q

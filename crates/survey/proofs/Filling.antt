@@ -9,9 +9,8 @@ use native.Mathlib.Nat.{not-suc-le-zero}
 use native.Mathlib.Omega.{arith}
 use lib.IntN.{ℤ}
 use Rattle.grid.specs.Grid.{isVoid, Inside}
-use Rattle.grid.specs.Points.{isCorner, level, ends, pair}
+use Rattle.grid.specs.Points.{isCorner, level, ends, pair, Pair}
 use Rattle.grid.specs.declared.points.Point.{Point}
-use Rattle.grid.specs.declared.points.Pair.{Pair}
 use Rattle.grid.proofs.Spaced.{level-below, corner-level}
 use Rattle.grid.proofs.Parity.{kind-corner}
 use Rattle.grid.proofs.Coarser.{ends-coarser}

@@ -2,16 +2,12 @@
 mod spacings;
 
 use grid::Grid;
-use grid::points::reach_of;
-use grid::points::site_of;
 use spacings::fill_spacings;
 ghost use mathlib.Core.Path.{_≡_};
 ghost use mathlib.Core.Bool.{false};
 ghost use lib.ListN.{length};
-ghost use Prim.Native.Nat.{_/_, _<_};
-ghost use Rattle.grid.specs.Grid.{Sound, samples, side, point};
-ghost use Rattle.grid.specs.Points.{kind, spacing};
-ghost use Rattle.grid.specs.Inner.{reachBy};
+ghost use Prim.Native.Nat.{_/_};
+ghost use Rattle.grid.specs.Grid.{Sound, samples};
 ghost use Rattle.survey.specs.Filled.{floorMean, CornersSurveyed};
 ghost use Rattle.survey.specs.Rule.{FilledFrom};
 ghost use Rattle.survey.specs.Inner.{Copied, NoVoid};
@@ -27,16 +23,6 @@ pub(crate) fn floor_mean(a: i16, b: i16) -> i16
     ensures { λ r. ⌜ r ≡ floorMean a b ⌝ }
 {
     Grid::lowered(halved(Grid::raised(a) + Grid::raised(b)))
-}
-
-// How many places before and behind a place its ends lie.
-pub(crate) fn reach_at(g: Grid, i: usize) -> usize
-    requires { ⌜ Sound g × (i < samples (g .m)) ⌝ }
-    ensures { λ r. ⌜ r ≡ reachBy (kind (g .m) (point (g .m) i)) (side (g .m)) (spacing (g .m) (point (g .m) i)) ⌝ }
-{
-    let t = site_of(g, g.point(i));
-    let kind = t.kind;
-    reach_of(g, kind, t.spacing)
 }
 
 fn copy(survey: &[i16], heights: &mut [i16])

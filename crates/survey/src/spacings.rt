@@ -1,13 +1,13 @@
 // Filling by spacing: every void before the points that it is an end of.
 use super::floor_mean;
-use super::reach_at;
 use grid::Grid;
+use grid::points::reach_at;
 ghost use Rattle.grid.specs.Grid.{at};
 ghost use Rattle.grid.specs.Inner.{Power, Spread};
 ghost use Rattle.survey.specs.Inner.{Ready, VoidAt, Stands, Swept, Run, RunFilled, Row, RowFilled, RowsFilled, NoVoid};
 
-// The height of a void, whose ends lie reach places before and behind it: recurses to an end that is void too, a run of one place.
-// What was found is kept in heights, so that no height is worked out twice.
+// The height of a void, whose ends lie reach places before and behind it: recurses to an end that is void too. What was found is kept
+// in heights, so that no height is worked out twice. An end is a run of one place: so the compiler can put this step into a run's loop.
 fn fill_void(g: Grid, i: usize, reach: usize, heights: &mut [i16])
     requires { ⌜ Ready g (now heights) × VoidAt (g .m) (now heights) i reach ⌝ }
     ensures { λ _. ⌜ Swept (g .m) (now (heights .entry)) (now (heights .exit)) (Stands (now (heights .exit)) i) ⌝ }

@@ -28,7 +28,7 @@ use Rattle.survey.proofs.spacings.fill_void.Kinds as fill-void-kinds
 use Rattle.survey.proofs.spacings.+fill_run+fill_void.Lts-fill_void as fill-void-lts
 use Rattle.grid.proofs.Grid.is_void.Reads as is-void-reads
 use Rattle.survey.proofs.floor_mean.Reads as floor-mean-reads
-use Rattle.survey.proofs.reach_at.Reads as reach-at-reads
+use Rattle.grid.proofs.points.reach_at.Reads as reach-at-reads
 use Rattle.survey.proofs.spacings.+fill_run+fill_void.{statement}
 use Rattle.survey.proofs.spacings.+fill_run+fill_void.Tie.{close}
 

@@ -1,17 +1,17 @@
--- `survey::reach_at` meets its contract: the site of the point at the place says it.
+-- `grid::points::reach_at` meets its contract: the site of the point at the place says it.
 use mathlib.Core.Path.{_≡_, _∙_}
 use Prim.Native.Nat.{ℕ, _≤_}
 use native.Mathlib.Omega.{arith}
 use Rattle.grid.specs.Grid.{largest, widest}
 use Rattle.grid.specs.Points.{site, kind, spacing}
 use Rattle.grid.specs.Inner.{reachBy}
 use Rattle.grid.specs.declared.points.Point.{Point}
 use Rattle.grid.specs.declared.points.Site.{Site}
 use Rattle.grid.proofs.Places.{side-small, point-inside}
 use Rattle.grid.proofs.Room.{spacing-side}
 use borrow.Author.Needs.{needs}
-use Rattle.survey.proofs.reach_at.Statement.{statement}
-use Rattle.survey.proofs.reach_at.Tie as tie
+use Rattle.grid.proofs.points.reach_at.Statement.{statement}
+use Rattle.grid.proofs.points.reach_at.Tie as tie
 
 point-requires : tie.Need-point-requires
 point-requires c κs = search needs
