@@ -68,7 +68,7 @@ def relation(claim):
 def failed_fact(error):
     """Whether one error says that something is not so: an equation whose sides differ, or a bound that numbers break."""
     differ = DIFFER.findall(error)
-    if differ:
+    if differ and named(differ[-1][1]) != "Learnt":
         return values_differ(*differ[-1])
     if any(said.search(error) for said in (VALUES, OMEGA, ENDS, HOLDS)):
         return True
