@@ -3,7 +3,7 @@ import re
 
 # The kit's libraries whose contracts are assumed.
 OUTSIDE = {"io", "libc", "os"}
-PROGRAMS = {"meshprint": 2, "show_points": 1, "show_selection": 1, "show_triangles": 1, "show_heights": 1, "show_frames": 1}
+PROGRAMS = {"meshprint": 5, "show_selection": 1, "show_triangles": 1, "show_heights": 1, "show_frames": 1}
 
 
 def listed(text):

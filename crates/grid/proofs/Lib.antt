@@ -16,6 +16,7 @@ pub mod Placed
 pub mod Dependence
 pub mod Cutting
 pub mod Rule
+pub mod Related
 pub mod Turning
 pub mod Numbers
 pub mod Values

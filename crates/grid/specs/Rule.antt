@@ -1,12 +1,12 @@
 -- Document 01's sentences about the spacing, about centre points and about edge points, as records: what the definitions of
--- `Points` are proved to mean. Definitions only.
+-- `Points` are proved to mean, `Related`, at every point of the square that is no grid corner. Definitions only.
 use mathlib.Core.Path.{_≡_}
 use mathlib.Core.Bool.{Bool, true, false, not}
 use mathlib.Core.List.{List, List·Memᴰ}
 use mathlib.Core.Logic.{_⊎_, _↔_}
 use Prim.Native.Nat.{ℕ, _+_, _*_, _^_, _/_, _%_, _≤_}
-use Rattle.grid.specs.Grid.{Inside}
-use Rattle.grid.specs.Points.{both, Pair}
+use Rattle.grid.specs.Grid.{Inside, side, at}
+use Rattle.grid.specs.Points.{Pair, pair, both, spacing, ends, dependsOn, dependents}
 use Rattle.grid.specs.declared.points.Point.{Point}
 
 -- s is the largest power of two dividing both x and y (zero is divisible by all)
@@ -57,3 +57,18 @@ pub record AwayAlong (turned : Bool) (s : ℕ) (p q : Point) : Type 0 where
 pub record Edge (m : ℕ) (turned : Bool) (s : ℕ) (p : Point) (e : Pair) (on : List Point) : Type 0 where
   pub ends : (q : Point) → List·Memᴰ q (both e) ↔ AwayAlong turned s p q
   pub others : (q : Point) → List·Memᴰ q on ↔ (AwayAlong (not turned) s p q × Inside m q)
+
+-- what document 01 says of a point p that is no grid corner
+pub record Related (m : ℕ) (p : Point) : Type 0 where
+  -- its spacing s is the largest power of two dividing both x and y
+  pub spaced : LargestPower (p .x) (p .y) (spacing m p)
+  -- x/s or y/s is odd. Centre point: both odd
+  pub some : (p .x / spacing m p % 2 ≡ 1) ⊎ (p .y / spacing m p % 2 ≡ 1)
+  pub centre : p .x / spacing m p % 2 ≡ 1 → p .y / spacing m p % 2 ≡ 1 → Centre (spacing m p) p (ends m p) (dependsOn m p)
+  -- for the grid's centre the ends are (0,0) and (N,N)
+  pub gridCentre : 2 * p .x ≡ side m → 2 * p .y ≡ side m → ends m p ≡ pair (at 0 0) (at (side m) (side m))
+  -- edge point: exactly one of them odd, x/s or y/s
+  pub eastWest : p .x / spacing m p % 2 ≡ 1 → p .y / spacing m p % 2 ≡ 0 → Edge m false (spacing m p) p (ends m p) (dependsOn m p)
+  pub northSouth : p .x / spacing m p % 2 ≡ 0 → p .y / spacing m p % 2 ≡ 1 → Edge m true (spacing m p) p (ends m p) (dependsOn m p)
+  -- its dependents are those that depend on it
+  pub dependentOn : (q : Point) → Inside m q → List·Memᴰ p (dependsOn m q) ↔ List·Memᴰ q (dependents m p)

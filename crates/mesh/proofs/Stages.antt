@@ -9,7 +9,7 @@ use Rattle.grid.specs.Hierarchy.{Triangle, first as firstOf, second as secondOf
 use Rattle.grid.specs.declared.points.Point.{Point}
 use Rattle.grid.proofs.Cutting.{cut, stage}
 use Rattle.grid.proofs.Turning.{halfway, apex}
-use Rattle.mesh.specs.Rule.{CutAt, Met, first, second, firstHalf, secondHalf}
+use Rattle.mesh.specs.Rule.{Staged, CutAt, Met, first, second, firstHalf, secondHalf}
 use Rattle.mesh.proofs.Leads.{no-midpoint, at-halfway, one-midpoint}
 
 -- (l, a, r) is a triangle of the hierarchy, by the cuts that made it
@@ -45,7 +45,7 @@ module _ {m : ℕ} {kept : Point → Bool} where
 
   -- so, of cuts that follow one another, every second one is at a block centre: after an even number of cuts. (Cuts made and left are 2m
   -- in all, so behind this cut the number left is odd just where the number made is even.)
-  pub stages : {cuts : ℕ} {l a r c : Point} → Met m kept cuts l a r → CutAt m kept l r c → Stage m (suc cuts) c
+  stages : {cuts : ℕ} {l a r c : Point} → Met m kept cuts l a r → CutAt m kept l r c → Stage m (suc cuts) c
   stages {cuts} t h =
       let w = cut-at (of-hierarchy t) h in
       let s = stage (w .triangle) in
@@ -58,8 +58,11 @@ module _ {m : ℕ} {kept : Point → Bool} where
       })
 
   -- and each has its apex where two equal sides stand at a right angle
-  pub apexes : {cuts : ℕ} {l a r : Point} → Met m kept cuts l a r → Apex cuts l a r
+  apexes : {cuts : ℕ} {l a r : Point} → Met m kept cuts l a r → Apex cuts l a r
   apexes t =
       let w = of-hierarchy t in
       let p = apex (w .triangle) in
       record { even = λ e. p .even (omega (arith, w .all)); odd = λ o. p .odd (omega (arith, w .all)) }
+
+pub staged : (m : ℕ) (kept : Point → Bool) → Staged m kept
+staged m kept = record { stage = stages; apex = apexes }

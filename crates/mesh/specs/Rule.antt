@@ -1,5 +1,5 @@
 -- Document 01's sentences about triangles, as records. A call meets the promise just where `Follows` holds; of an accepted call `Told`
--- holds besides; of the triangles that cutting passes through, `Met`, grid's `Stage` and `Apex` do. The order of corners is `written`, the
+-- holds besides; of the triangles that cutting passes through (`Met`), `Staged`. The order of corners is `written`, the
 -- places are `placesOf`, a mark that keeps its point is `keptMark`. Definitions only.
 use mathlib.Core.Path.{_≡_}
 use mathlib.Core.Bool.{Bool, true}
@@ -12,6 +12,7 @@ use Rattle.grid.specs.Points.{isCorner}
 use Rattle.grid.specs.Mark.{goodMark}
 use Rattle.grid.specs.Sizes.{sizeOf}
 use Rattle.grid.specs.Refusal.{accepted, sizeAbove, wrongLength, badMark, notClosed, noRoom}
+use Rattle.grid.specs.Hierarchy.{Stage, Apex}
 use Rattle.grid.specs.Turn.{CounterClockwise}
 use Rattle.grid.specs.declared.points.Point.{Point}
 use Rattle.selection.specs.Marks.{markAt}
@@ -48,6 +49,12 @@ pub data Met (m : ℕ) (kept : Point → Bool) : ℕ → Point → Point → Poi
   second : Met m kept 0 (at (side m) (side m)) (at 0 (side m)) (at 0 0)
   firstHalf : {cuts : ℕ} {l a r c : Point} → Met m kept cuts l a r → CutAt m kept l r c → Met m kept (suc cuts) l c a
   secondHalf : {cuts : ℕ} {l a r c : Point} → Met m kept cuts l a r → CutAt m kept l r c → Met m kept (suc cuts) a c r
+
+-- After an even number of cuts a triangle is cut at a block centre, and its halves at edge midpoints; and the other way about. At its apex two equal
+-- sides stand at a right angle, so l to r is the longest. (By the cuts made: these and the cuts left are 2m in all.)
+pub record Staged (m : ℕ) (kept : Point → Bool) : Type 0 where
+  pub stage : {cuts : ℕ} {l a r c : Point} → Met m kept cuts l a r → CutAt m kept l r c → Stage m (suc cuts) c
+  pub apex : {cuts : ℕ} {l a r : Point} → Met m kept cuts l a r → Apex cuts l a r
 
 -- the uncut triangles that the square leads to
 pub record Uncut (m : ℕ) (kept : Point → Bool) (ts : List Three) : Type 0 where
