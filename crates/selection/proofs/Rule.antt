@@ -5,6 +5,7 @@ use mathlib.Core.Bool.{Bool, true, false, cond}
 use mathlib.Core.List.{List}
 use mathlib.Core.Logic.{⊎-elim, _↔_, _≢_}
 use Prim.Native.Nat.{ℕ, _*_}
+use native.Mathlib.Decide.{ℕ-discrete}
 use lib.ListN.{getD}
 use lib.IntN.{ℤ}
 use borrow.Author.Tests.{eq-eqb, eqb-true, ltb-true, lt-ltb}
@@ -24,7 +25,7 @@ use Rattle.selection.specs.Error.{over}
 use Rattle.selection.specs.Kept.{kept}
 use Rattle.selection.specs.Marks.{markBy, mark, marksOf, markAt, count, markedOwn, markedDependence}
 use Rattle.selection.specs.Selected.{Handed, refusal, marksBy, Selects}
-use Rattle.selection.specs.Rule.{Least, Turned, Untouched, Selection, OffItsEnds, Told}
+use Rattle.selection.specs.Rule.{Least, Turned, Untouched, Selection, OffItsEnds, ByTolerance, Follows, Told}
 use Rattle.selection.specs.declared.Selected.{Selected}
 use Rattle.selection.proofs.Least.{kept-least, least-only}
 use Rattle.selection.proofs.Marked.{kept-mark, good-mark, mark-own, mark-dependent, void-mark, own-surveyed, corners-within}
@@ -92,11 +93,10 @@ module _ (h : Handed) where
     over-off p o =
         sym (exceeding-filled (h .m) (h .survey) (2 * h .tolerance) p refl (o .surveyed)) ∙ lt-ltb (2 * h .tolerance) _ (o .off)
 
-    told-of : Told (h .m) (h .tolerance) (h .survey) isOver (taken h) (marksBy h) heightsBy
+    told-of : Told (h .m) isOver (taken h) (marksBy h)
     told-of =
         let a = accepted-handed h ok in
         record {
-          exceeds = λ p k. (off p, over-off p);
           dependence = λ p k. rw (kept-at p k) (ap markedDependence (mark-at p k) ∙ mark-dependent (h .m) (h .survey) isOver p);
           voids = sym (count-voids (h .m) (h .survey) (a .lengths .survey) isOver (a .corners));
         }
@@ -128,10 +128,17 @@ module _ {h : Handed} {r : Selected} {marks : List ℕ} {heights : List ℤ} (s 
       let ok = sym number ∙ e in
       rw (s .answer ∙ answer-taken h ok, s .marks ∙ marks-taken h ok, s .heights ∙ heights-taken h ok) (selection-of h ok)
 
-  pub told : r .refusal ≡ accepted → Told (h .m) (h .tolerance) (h .survey) (over (h .m) (h .survey) (h .tolerance)) r marks heights
-  told e =
+  by-tolerance : r .refusal ≡ accepted → ByTolerance h r marks heights
+  by-tolerance e =
       let ok = sym number ∙ e in
-      rw (s .answer ∙ answer-taken h ok, s .marks ∙ marks-taken h ok, s .heights ∙ heights-taken h ok) (told-of h ok)
+      record {
+        over = isOver h;
+        exceeds = λ p k. rw (s .heights ∙ heights-taken h ok) (off h ok p, over-off h ok p);
+        selection = selection e;
+      }
+
+  pub told : r .refusal ≡ accepted → Told (h .m) (over (h .m) (h .survey) (h .tolerance)) r marks
+  told e = let ok = sym number ∙ e in rw (s .answer ∙ answer-taken h ok, s .marks ∙ marks-taken h ok) (told-of h ok)
 
 -- two tests that hold alike are the same
 pub same-test : (a b : Bool) → (a ≡ true) ↔ (b ≡ true) → a ≡ b
@@ -195,7 +202,7 @@ module _ (h : Handed) {r : Selected} {marks : List ℕ} {heights : List ℤ} (ok
         voids = s .voidCount i;
       }
 
-pub selection-only : (h : Handed) {r : Selected} {marks : List ℕ} {heights : List ℤ} → Turned h (r .refusal) → r .refusal ≡ accepted →
+selection-only : (h : Handed) {r : Selected} {marks : List ℕ} {heights : List ℤ} → Turned h (r .refusal) → r .refusal ≡ accepted →
     Selection (h .m) (h .survey) (over (h .m) (h .survey) (h .tolerance)) r marks heights → Selects h r marks heights
 selection-only h t e s =
     let ok = sym (turned-only h t) ∙ e in
@@ -204,3 +211,41 @@ selection-only h t e s =
       marks = marks-by h ok s ∙ sym (marks-taken h ok);
       heights = fills-only (h .m) (h .survey) (accepted-handed h ok .corners) _ (s .fills) ∙ sym (heights-taken h ok);
     }
+
+-- by whichever test: it holds of the same points of the square
+module _ (h : Handed) {r : Selected} {marks : List ℕ} {heights : List ℤ} (ok : refusal h ≡ accepted) (b : ByTolerance h r marks heights) where
+  written : heights ≡ heightsBy h
+  written = fills-only (h .m) (h .survey) (accepted-handed h ok .corners) _ (b .selection .fills)
+
+  same-over : (p : Point) → Inside (h .m) p → b .over p ≡ isOver h p
+  same-over p k = let e = rw written at (b .exceeds p k) in same-test _ _ (λ o. over-off h ok p (e .0 o), λ o. e .1 (off h ok p o))
+
+  by-over : Selection (h .m) (h .survey) (isOver h) r marks heights
+  by-over =
+      let s = b .selection in
+      record {
+        long = s .long;
+        least = record {
+          closed = s .least .closed;
+          contains = λ p k o. s .least .contains p k (same-over p k ∙ o);
+          least = λ other c o p k i. s .least .least other c (λ q l t. o q l (sym (same-over q l) ∙ t)) p k i;
+        };
+        good = s .good;
+        ownMarks = λ p k. (λ e. sym (same-over p k) ∙ s .ownMarks p k .0 e, λ e. s .ownMarks p k .1 (same-over p k ∙ e));
+        voidMarks = s .voidMarks;
+        fills = s .fills;
+        ownCount = s .ownCount;
+        dependentCount = s .dependentCount;
+        voidCount = s .voidCount;
+      }
+
+-- the promise and document 01's sentences mean each other, of any answer and buffers
+pub follows : {h : Handed} {r : Selected} {marks : List ℕ} {heights : List ℤ} → Selects h r marks heights ↔ Follows h r marks heights
+follows {h} {r} {marks} {heights} = (there, λ f. back f (ℕ-discrete (r .refusal) accepted))
+  where
+    there : Selects h r marks heights → Follows h r marks heights
+    there s = record { turned = turned-down s; refused = untouched s; selected = by-tolerance s }
+
+    back : Follows h r marks heights → Dec (r .refusal ≡ accepted) → Selects h r marks heights
+    back f (yes e) = selection-only h (f .turned) e (by-over h (sym (turned-only h (f .turned)) ∙ e) (f .selected e))
+    back f (no n) = refused-only h (f .turned) n (f .refused n)

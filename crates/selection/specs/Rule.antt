@@ -1,8 +1,9 @@
--- Document 01's sentences about selection, as records: what the promise is proved to mean. Definitions only.
+-- Document 01's sentences about selection, as records. A call meets the promise just where `Follows` holds; of an accepted call `Told` holds
+-- besides. Definitions only.
 use mathlib.Core.Path.{_≡_}
 use mathlib.Core.Bool.{Bool, true, false, not, _&&_}
 use mathlib.Core.List.{List, List·Memᴰ}
-use mathlib.Core.Logic.{_↔_}
+use mathlib.Core.Logic.{_↔_, _≢_}
 use Prim.Native.Nat.{ℕ, _*_, _≤_, _<_}
 use lib.ListN.{length}
 use lib.IntN.{ℤ, pos, natAbs, _+ℤ_, _-ℤ_, _*ℤ_}
@@ -73,16 +74,26 @@ pub record Selection (m : ℕ) (survey : List ℤ) (over : Point → Bool) (r : 
   pub dependentCount : r .dependent ≡ count markedDependence marks
   pub voidCount : r .voids ≡ count isVoid survey
 
--- a point is off its ends, by the heights written alone: its sample is not void, and |2h - (a + b)| exceeds 2t, h the height at the
--- point, a and b those at its two ends
+-- a point is off its ends by more than t, by the heights written alone: its sample is not void, and |2h - (a + b)| exceeds 2t, h the height
+-- at the point, a and b those at its two ends
 pub record OffItsEnds (m t : ℕ) (survey heights : List ℤ) (p : Point) : Type 0 where
   pub surveyed : isVoid (sample m survey p) ≡ false
   pub off : 2 * t < natAbs (pos 2 *ℤ sample m heights p -ℤ (sample m heights (ends m p .first) +ℤ sample m heights (ends m p .second)))
 
--- what a reader may rely on besides: a point is over tolerance t exactly when it is off its ends, by the heights written; 2 and 6 stand at
--- the points kept only for dependence; the voids are as many as the marks of 4 or more
-pub record Told (m t : ℕ) (survey : List ℤ) (over : Point → Bool) (r : Selected) (marks : List ℕ) (heights : List ℤ) : Type 0 where
-  pub exceeds : (p : Point) → Inside m p → (over p ≡ true) ↔ OffItsEnds m t survey heights p
+-- an accepted selection, by the test of what is over tolerance t: that holds exactly of the points off their ends
+pub record ByTolerance (h : Handed) (r : Selected) (marks : List ℕ) (heights : List ℤ) : Type 1 where
+  pub over : Point → Bool
+  pub exceeds : (p : Point) → Inside (h .m) p → (over p ≡ true) ↔ OffItsEnds (h .m) (h .tolerance) (h .survey) heights p
+  pub selection : Selection (h .m) (h .survey) over r marks heights
+
+-- a call follows document 01
+pub record Follows (h : Handed) (r : Selected) (marks′ : List ℕ) (heights′ : List ℤ) : Type 1 where
+  pub turned : Turned h (r .refusal)
+  pub refused : r .refusal ≢ accepted → Untouched h r marks′ heights′
+  pub selected : r .refusal ≡ accepted → ByTolerance h r marks′ heights′
+
+-- what a reader may rely on besides: 2 and 6 stand at the points kept only for dependence; the voids are as many as the marks of 4 or more
+pub record Told (m : ℕ) (over : Point → Bool) (r : Selected) (marks : List ℕ) : Type 0 where
   pub dependence : (p : Point) → Inside m p →
       markedDependence (markAt m marks p) ≡ (not (isCorner m p) && (not (over p) && keptMark (markAt m marks p)))
   pub voids : r .voids ≡ count filledMark marks
