@@ -23,7 +23,7 @@ use Rattle.mesh.proofs.Written.{places-long}
 use Rattle.strip.specs.Strip.{Corners, corners, placed}
 use Rattle.strip.specs.Reading.{AllAlike, readStrip, threes}
 use Rattle.strip.specs.Stripped.{trianglesOf, strip, refusal, answerOf, placesAfter, Strips}
-use Rattle.strip.specs.Rule.{Turned, asTriangles, room, nothing, Follows, OneStrip}
+use Rattle.strip.specs.Rule.{Told, Turned, asTriangles, room, nothing, Follows, OneStrip}
 use Rattle.strip.specs.declared.Stripped.{Stripped}
 use Rattle.strip.proofs.Wedge.{placed-long}
 use Rattle.strip.proofs.Whole.{one-strip}
@@ -86,15 +86,19 @@ module _ {h : Handed} {r : Stripped} {places′ : List ℕ} where
   pub follows : Strips h r places′ ↔ Follows h r places′
   follows = (λ s. following (given s), λ f. strips (followed f))
 
--- what an accepted call wrote
-pub one : {h : Handed} {r : Stripped} {places′ : List ℕ} → Strips h r places′ → r .refusal ≡ accepted →
+-- an accepted call counts the places of the strip, and wrote it
+counts : {h : Handed} {r : Stripped} {places′ : List ℕ} → Strips h r places′ → r .refusal ≡ accepted → r .places ≡ length (strip h)
+counts s e = rw e at (given s .counted)
+
+wrote : {h : Handed} {r : Stripped} {places′ : List ℕ} → Strips h r places′ → r .refusal ≡ accepted → take (r .places) places′ ≡ strip h
+wrote {h} {r} {places′} s e =
+    let after : places′ ≡ writtenOver (strip h) (h .places) = rw e at (given s .after) in
+    rw after (take-at (strip h) (drop (length (strip h)) (h .places)) (r .places) (sym (counts s e)))
+
+one : {h : Handed} {r : Stripped} {places′ : List ℕ} → Strips h r places′ → r .refusal ≡ accepted →
     OneStrip (trianglesOf h) (take (r .places) places′)
 unfolding strip
-one {h} {r} {places′} s e =
-    let g = given s in
-    let counted : r .places ≡ length (strip h) = rw e at (g .counted) in
-    let after : places′ ≡ writtenOver (strip h) (h .places) = rw e at (g .after) in
-    rw (after, take-at (strip h) (drop (length (strip h)) (h .places)) (r .places) (sym counted)) (one-strip (closed (turned h) (sym (g .number) ∙ e)))
+one {h} {r} {places′} s e = rw (wrote s e) (one-strip (closed (turned h) (sym (given s .number) ∙ e)))
   where
     closed : {n : ℕ} → Turned h n → n ≡ accepted → Closed (h .m) (Kept h)
     closed (asTriangles t p q) k = absurd (q k)
@@ -108,7 +112,7 @@ threes-placed m (t ∷ ts) =
     ap (λ (us : List Corners). corners (place m (t .first)) (place m (t .second)) (place m (t .third)) ∷ us) (threes-placed m ts)
 
 -- beside what triangles writes of the same marks, with whichever room: the strip reads back as that list, in at most two places a triangle
-pub beside : {h : Handed} {r : Stripped} {places′ : List ℕ} (lent : List ℕ) {n : Meshed} {list : List ℕ} → Strips h r places′ → r .refusal ≡ accepted →
+beside : {h : Handed} {r : Stripped} {places′ : List ℕ} (lent : List ℕ) {n : Meshed} {list : List ℕ} → Strips h r places′ → r .refusal ≡ accepted →
     Meshes (handed (h .marks) (h .m) lent) n list → n .refusal ≡ accepted →
     AllAlike (readStrip (take (r .places) places′)) (threes (take (3 * n .triangles) list)) × (length (take (r .places) places′) ≤ 2 * n .triangles)
 beside {h} {r} {places′} lent {n} {list} s e w f =
@@ -123,3 +127,10 @@ beside {h} {r} {places′} lent {n} {list} s e w f =
     ∙ threes-placed (h .m) ts ∙ ap (placed (h .m)) same in
     let number : length (trianglesOf h) ≡ n .triangles = placed-long (h .m) (mesh (h .m) (keptOf h)) ∙ ap length (sym same) ∙ sym (k .answer) in
     (rw read (o .reads), rw number at (o .most))
+
+pub told : {h : Handed} {r : Stripped} {places′ : List ℕ} → Strips h r places′ → r .refusal ≡ accepted → Told h r places′
+told {h} {r} {places′} s e = record {
+  one = one s e;
+  listed = λ lent w f. beside lent s e w f .0;
+  short = λ lent w f. omega (arith, counts s e, ap length (wrote s e), beside lent s e w f .1);
+}

@@ -1,18 +1,20 @@
--- K1's sentences, as records. A call meets the promise just where `Follows` holds; of an accepted call `OneStrip` holds besides. What the marks
+-- K1's sentences, as records. A call meets the promise just where `Follows` holds; of an accepted call `Told` holds besides. What the marks
 -- may be, when a set is closed and which triangles the square leads to are mesh's sentences. Definitions only.
 use mathlib.Core.Path.{_≡_}
 use mathlib.Core.List.{List, [], _∷_, _++_}
 use mathlib.Core.Logic.{_⊎_, _≢_}
 use Prim.Native.Nat.{ℕ, suc, _*_, _≤_, _<_}
-use lib.ListN.{length, drop}
+use lib.ListN.{length, take, drop}
 use Rattle.grid.specs.Grid.{largest, samples}
 use Rattle.grid.specs.Refusal.{accepted, noRoom}
 use Rattle.selection.specs.Rule.{Closed}
 use Rattle.mesh.specs.Triangles.{Three}
-use Rattle.mesh.specs.Meshed.{Handed, keptOf}
+use Rattle.mesh.specs.Meshed.{Handed, handed, keptOf, entriesEach, Meshes}
 use Rattle.mesh.specs.Rule.{Good, Kept, Uncut, Turned as TurnedDown}
+use Rattle.mesh.specs.declared.Meshed.{Meshed}
 use Rattle.strip.specs.Strip.{Corners, corners, placed}
-use Rattle.strip.specs.Reading.{Alike, AllAlike, readStrip, Neighbours, nth}
+use Rattle.strip.specs.Reading.{Alike, AllAlike, readStrip, threes, Neighbours, nth}
+use Rattle.strip.specs.Stripped.{trianglesOf}
 use Rattle.strip.specs.declared.Stripped.{Stripped}
 
 -- a place is a corner of a triangle
@@ -89,3 +91,13 @@ pub record Follows (h : Handed) (r : Stripped) (places′ : List ℕ) : Type 0 w
   pub untouched : r .refusal ≢ accepted → places′ ≡ h .places
   -- accepted: the strip; entries past the last are untouched
   pub written : r .refusal ≡ accepted → {strip : List ℕ} → StripOf h strip → places′ ≡ strip ++ drop (length strip) (h .places)
+
+-- what follows for an accepted call, of the places that it wrote
+pub record Told (h : Handed) (r : Stripped) (places′ : List ℕ) : Type 0 where
+  -- what K1 asks, of the triangles of the plain list
+  pub one : OneStrip (trianglesOf h) (take (r .places) places′)
+  -- beside what triangles writes of the same marks, with whichever room: read back, the strip gives that very list, in at most two places a triangle
+  pub listed : (lent : List ℕ) {n : Meshed} {list : List ℕ} → Meshes (handed (h .marks) (h .m) lent) n list → n .refusal ≡ accepted →
+      AllAlike (readStrip (take (r .places) places′)) (threes (take (entriesEach * n .triangles) list))
+  pub short : (lent : List ℕ) {n : Meshed} {list : List ℕ} → Meshes (handed (h .marks) (h .m) lent) n list → n .refusal ≡ accepted →
+      r .places ≤ 2 * n .triangles
