@@ -1,5 +1,5 @@
--- Document 01's sentences about the height and the ground plane at a point. For heights of 16 bits, as the code's are, a call meets its
--- promise just where `FollowsHeight`, or `FollowsPlane`, holds; these speak of plain geometry (`Geometry`), with no weights and no rounding. Of an
+-- Document 01's sentences about the height and the ground plane at a point. A call meets its promise, whose heights have 16 bits,
+-- just where `FollowsHeight`, or `FollowsPlane`, holds; these speak of plain geometry (`Geometry`), with no weights and no rounding. Of an
 -- answered call `Told` holds besides. Definitions only.
 use mathlib.Core.Path.{_≡_}
 use mathlib.Core.Bool.{Bool, true}
@@ -155,7 +155,7 @@ pub record FollowsPlane (h : Handed) (r : PlaneAnswer) : Type 0 where
   pub refused : r .refusal ≢ accepted → AllZero r
   pub answered : r .refusal ≡ accepted → Grounded h r
 
--- what follows for an answered call
+-- what follows for a call that is answered (`refusal h` is 0), its heights of 16 bits
 pub record Told (h : Handed) : Type 0 where
   -- the height times 4N is a whole number of at most 512 · 32767 in size, below 2^24
   pub most : (g : Ground h) → natAbs (g .z) ≤ inQuarters largest * highest
@@ -170,8 +170,8 @@ pub record Told (h : Handed) : Type 0 where
       let t = ended h .triangle in Barycentric (h .m) (three (t .l) (t .a) (t .r)) (queried h) (t .wl) (t .wa) (t .wr)
   pub odd : ended h .left % 2 ≡ 1 →
       let t = ended h .triangle in Barycentric (h .m) (three (t .r) (t .a) (t .l)) (queried h) (t .wr) (t .wa) (t .wl)
-  -- moving one cell east, or north, changes the height z / 4N of the plane, where that is whole in z, by its slope e / d, or n / d, d the
-  -- doubled area
+  -- moving one cell east, or north, changes the height z / 4N of the plane by its slope e / d, or n / d, d the doubled area (z is whole there, too:
+  -- 4N e / d is)
   pub east : (g : Ground h) (z : ℤ) →
       let t = written (g .cuts) (g .l) (g .a) (g .r) in
       Plane (h .m) (h .heights) t (at (h .x + quarters) (h .y)) z (g .e) (g .n) →

@@ -41,6 +41,6 @@ goodMark corner mark =
 abbrev pub keptMark : ℕ → Bool
 keptMark mark = eqb mark forError || eqb mark forDependence || eqb mark forCorner || eqb mark voidKept
 
--- a mark of 4 or more: a good mark is so just where the sample was void
+-- a mark of 4 or more: of those that selection writes, just where the sample was void
 abbrev pub filledMark : ℕ → Bool
 filledMark mark = leb ifVoid mark

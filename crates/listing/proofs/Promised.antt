@@ -7,7 +7,7 @@ use native.Mathlib.Omega.{arith}
 use lib.ListN.{length, length-append, take, drop}
 use lib.Seq.{take-append-seam}
 use denote.Ref.{now}
-use Rattle.listing.specs.Text.{textIn, Prints, SameText}
+use Rattle.listing.specs.Text.{textIn, Prints}
 use Rattle.listing.specs.Rule.{Shows}
 use Rattle.listing.proofs.Rule.{text-shows}
 use Rattle.listing.proofs.text_of.Reads as text-of
@@ -22,7 +22,3 @@ module _ {input out : List ℕ} {r : ℕ} {out′ : List ℕ} (p : Prints input 
 
 pub promised : (k : _) (a : _) (r : ℕ) (o : _) → text-of.Learnt k a r o → Shows (now (a .0)) (take r (now (o .1 .0)))
 promised k a r o p = subst (Shows (now (a .0))) (sym (printed p)) (text-shows (now (a .0)))
-
-pub text-once : (k : _) (a : _) (r r′ : ℕ) (o o′ : _) → text-of.Learnt k a r o → text-of.Learnt k a r′ o′ →
-    SameText r r′ (now (o .1 .0)) (now (o′ .1 .0))
-text-once k a r r′ o o′ p q = record { answer = p .answer ∙ sym (q .answer); written = p .written ∙ sym (q .written) }

@@ -27,7 +27,7 @@ selected input =
 unfoldable pub refusal : List ℕ → ℕ
 refusal input = cond (eqb (formRefusal input) accepted) (selectionRefusal (selected input)) (formRefusal input)
 
--- the points that the marks keep which selection writes
+-- the points that selection keeps, by the marks that it writes
 abbrev pub keptIn : List ℕ → Point → Bool
 keptIn input = keptBy (sizeIn input) (marksBy (selected input))
 

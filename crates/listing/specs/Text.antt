@@ -66,8 +66,3 @@ textIn input = textOf (answerIn input) (placesIn input)
 pub record Prints (input out : List ℕ) (r : ℕ) (out′ : List ℕ) : Type 0 where
   pub answer : r ≡ length (textIn input)
   pub written : out′ ≡ writtenOver (textIn input) out
-
--- two outcomes are the same: the answer, and the lent buffer at exit
-pub record SameText (r r′ : ℕ) (out out′ : List ℕ) : Type 0 where
-  pub answer : r ≡ r′
-  pub written : out ≡ out′

@@ -28,6 +28,7 @@ use Rattle.head.proofs.mosskirtle_plane.Reads as c-plane
 use Rattle.frame.specs.declared.Frame.{Frame}
 use Rattle.frame.proofs.read.Reads as read
 use Rattle.frame.proofs.heights.Reads as heights
+use Rattle.listing.proofs.text_of.Reads as text-of
 use Rattle.grid.proofs.sizes.grid_of.Reads as grid-of
 use Rattle.grid.proofs.Grid.place.Reads as place
 use Rattle.grid.proofs.Grid.point.Reads as point
@@ -45,7 +46,7 @@ use Rattle.grid.proofs.points.reach_of.Reads as reach-of
 use Rattle.mesh.proofs.good.corners_good.Reads as corners-good
 use Rattle.mesh.proofs.cut.is_cut.Reads as is-cut
 use Rattle.survey.proofs.fill.Reads as fill
-use Rattle.settled.specs.Unique.{SameSelection, SameTriangles, SameStrip, SameSurvey}
+use Rattle.settled.specs.Unique.{SameSelection, SameTriangles, SameStrip, SameSurvey, SameText}
 use Rattle.settled.proofs.Unique.{no-second}
 
 pub select-once : (k : _) (a : _) (r r′ : Selected) (o o′ : _) → select.Learnt k a r o → select.Learnt k a r′ o′ →
@@ -72,6 +73,10 @@ read-once k a r r′ o o′ p q = no-second .read _ r r′ p q
 pub heights-once : (k : _) (a : _) (r r′ : ℕ) (o o′ : _) → heights.Learnt k a r o → heights.Learnt k a r′ o′ →
     SameSurvey r r′ (now (o .1 .0)) (now (o′ .1 .0))
 heights-once k a r r′ o o′ p q = no-second .heights _ r r′ _ _ p q
+
+pub text-once : (k : _) (a : _) (r r′ : ℕ) (o o′ : _) → text-of.Learnt k a r o → text-of.Learnt k a r′ o′ →
+    SameText r r′ (now (o .1 .0)) (now (o′ .1 .0))
+text-once k a r r′ o o′ p q = no-second .text _ _ r r′ _ _ p q
 
 pub size-once : (k : _) (a : _) (r r′ : SizeAnswer) (o o′ : _) → size-of.Learnt k a r o → size-of.Learnt k a r′ o′ → r ≡ r′
 size-once k a r r′ o o′ p q = no-second .size (a .0) r r′ p q

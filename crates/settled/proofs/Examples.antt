@@ -25,6 +25,7 @@ use Rattle.aim.specs.Walk.{start, half, walk, met}
 use Rattle.aim.specs.Aimed.{ended, looked, refusal as aimRefusal, weighted, heightIn, isFilled, heightAt, eastward, northward, groundIn, planeAt}
 use Rattle.aim.proofs.Exactness.{exactly}
 use Rattle.surface.proofs.Surface.{one-surface}
+use Rattle.listing.proofs.Values.{sample-text}
 use Rattle.strip.specs.Stripped.{refusal as stripRefusal, answerOf as stripAnswer, placesAfter as stripPlaces}
 use Rattle.settled.specs.Examples.{minus, gridQ, nines, select, FloatIs, Settled}
 
@@ -102,7 +103,7 @@ settled = record {
   twelve-unclosed = record { answer = refl; places = refl };
   twelve-short = record { answer = refl; places = refl };
   twelve-written = record { answer = refl; places = refl };
-  sample = record { answer = refl; places = refl };
+  sample = sample-text;
   surface =
       one-surface {s = select 1 5 gridQ} {places = nines 15} (record {
         selects = record { selects = record { answer = refl; marks = refl; heights = refl }; sixteen = λ ok. small-q };

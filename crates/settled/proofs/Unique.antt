@@ -18,5 +18,6 @@ no-second = record {
   heights = λ h r r′ survey survey′ p q. record { answers = p .answer ∙ sym (q .answer); surveyAtExit = p .survey ∙ sym (q .survey) };
   height = λ h r r′ p q. said-only r r′ (p ∙ sym q);
   plane = λ h r r′ p q. p ∙ sym q;
+  text = λ input before r r′ out out′ p q. record { answers = p .answer ∙ sym (q .answer); bytesAtExit = p .written ∙ sym (q .written) };
   crossing = λ h r r′ p q. p ∙ sym q;
 }

@@ -1,4 +1,4 @@
--- The twelve settled examples of document 01 as one table, `Settled`. Each row is the promise of a public call at the input of an example, with
+-- The twelve settled examples of document 01 as one table, `Settled`. Each row is what a public call promises at the input of an example, with
 -- the answer and the buffers at exit in numbers; or, of an answered height or plane, what the promise says of it. Examples start from the survey:
 -- triangles, height and plane are handed the very marks and heights that selection writes (but where m is 8, and for example 12's unclosed marks, which
 -- are those with the middle set to 0). `ten-kept` says which points example 10's marks keep. Definitions only.
@@ -28,6 +28,7 @@ use Rattle.aim.specs.declared.HeightAnswer.the-variants.{Surveyed, Filled, Refu
 use Rattle.aim.specs.declared.HeightAnswer.{HeightAnswer}
 use Rattle.aim.specs.declared.PlaneAnswer.{PlaneAnswer}
 use Rattle.surface.specs.Surface.{OneSurface}
+use Rattle.listing.specs.Text.{textIn}
 
 -- ---- the surveys, row by row from y = 0
 
@@ -200,7 +201,7 @@ pub record Settled : Type 0 where
   pub ten-triangles : Meshes (triangles (select 2 4 gridTen) 30) (meshed 0 9)
       (0 ∷ 1 ∷ 6 ∷ 6 ∷ 1 ∷ 2 ∷ 12 ∷ 6 ∷ 2 ∷ 12 ∷ 2 ∷ 4 ∷ 24 ∷ 12 ∷ 4 ∷
       20 ∷ 12 ∷ 24 ∷ 20 ∷ 10 ∷ 12 ∷ 10 ∷ 6 ∷ 12 ∷ 0 ∷ 6 ∷ 10 ∷ 9 ∷ 9 ∷ 9 ∷ [])
-  -- 11. Tolerance 65,535 is taken, 65,536 refused 4; m = 8 refused 1. (The tolerances with Q; m = 8 by every call that is handed m, whatever else is.)
+  -- 11. Tolerance 65,535 is taken, 65,536 refused 4; m = 8 refused 1. (The tolerances with Q; m = 8 by every call of Rattle that is handed m, whatever else is; C's promise the same.)
   pub eleven-taken : Selects (select 1 65_535 gridQ) (selected 0 0 0 0)
       (3 ∷ 0 ∷ 3 ∷
       0 ∷ 0 ∷ 0 ∷
@@ -220,14 +221,19 @@ pub record Settled : Type 0 where
   pub twelve-short : Meshes (triangles (select 1 5 gridQ) 14) (meshed 8 5) (nines 14)
   pub twelve-written : Meshes (triangles (select 1 5 gridQ) 15) (meshed 0 5)
       (0 ∷ 1 ∷ 4 ∷ 4 ∷ 1 ∷ 2 ∷ 8 ∷ 4 ∷ 2 ∷ 6 ∷ 4 ∷ 8 ∷ 0 ∷ 4 ∷ 6 ∷ [])
-  -- The triangles of the program's sample, m 1, tolerance 5, heights 0 10 0 / 0 0 0 / 0 0 0: five, with the places of its five lines.
-  pub sample : Meshes (triangles (select 1 5 gridQ) 18) (meshed 0 5)
-      (0 ∷ 1 ∷ 4 ∷
-      4 ∷ 1 ∷ 2 ∷
-      8 ∷ 4 ∷ 2 ∷
-      6 ∷ 4 ∷ 8 ∷
-      0 ∷ 4 ∷ 6 ∷
-      9 ∷ 9 ∷ 9 ∷ [])
+  -- The program's sample. For length 24, version 1, m 1, tolerance 5, heights 0 10 0 / 0 0 0 / 0 0 0, all of it is, by the characters' codes:
+  -- T 5, 0 1 4, 4 1 2, 8 4 2, 6 4 8, 0 4 6, a line each.
+  pub sample : textIn
+      (0 ∷ 0 ∷ 0 ∷ 24 ∷ 1 ∷ 1 ∷ 0 ∷ 0 ∷ 0 ∷ 5 ∷
+      0 ∷ 0 ∷ 0 ∷ 10 ∷ 0 ∷ 0 ∷
+      0 ∷ 0 ∷ 0 ∷ 0 ∷ 0 ∷ 0 ∷
+      0 ∷ 0 ∷ 0 ∷ 0 ∷ 0 ∷ 0 ∷ [])
+      ≡ 84 ∷ 32 ∷ 53 ∷ 10 ∷
+      48 ∷ 32 ∷ 49 ∷ 32 ∷ 52 ∷ 10 ∷
+      52 ∷ 32 ∷ 49 ∷ 32 ∷ 50 ∷ 10 ∷
+      56 ∷ 32 ∷ 52 ∷ 32 ∷ 50 ∷ 10 ∷
+      54 ∷ 32 ∷ 52 ∷ 32 ∷ 56 ∷ 10 ∷
+      48 ∷ 32 ∷ 52 ∷ 32 ∷ 54 ∷ 10 ∷ []
   -- Demand 3, of Q: its marks, its heights and its five triangles are one surface.
   pub surface : OneSurface 1
       (3 ∷ 1 ∷ 3 ∷

@@ -1,6 +1,6 @@
 -- The four calls together: a selection, triangles on the marks that it wrote, height and plane on the marks and the heights that it wrote, at one
--- point. `four-calls` in proofs/FourCalls has this from their contracts alone, as the checker has them, of any selection and any triangles that were
--- accepted. Definitions only.
+-- point. The theorem is `four-calls` in proofs/FourCalls: where select and triangles were accepted, and (x, y) is a point of the square, in quarter
+-- cells, it follows from the contracts of the four calls, as the code states them, and from nothing else. Definitions only.
 use mathlib.Core.Path.{_≡_}
 use mathlib.Core.List.{List}
 use Prim.Native.Nat.{ℕ, _<_}

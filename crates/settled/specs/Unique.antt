@@ -1,5 +1,5 @@
--- No second answer: for the same input, any two outcomes that meet a public call's promise are the same, the answer and every lent buffer at
--- exit. Document 01, "How tight the promises are". Definitions only.
+-- No second answer: for the same input, any two outcomes that meet the equations of a public call's promise are the same, the answer and every lent
+-- buffer at exit. Document 01, "How tight the promises are". Definitions only.
 use mathlib.Core.Path.{_≡_}
 use mathlib.Core.List.{List}
 use Prim.Native.Nat.{ℕ}
@@ -14,6 +14,7 @@ use Rattle.strip.specs.Stripped.{Strips}
 use Rattle.strip.specs.declared.Stripped.{Stripped}
 use Rattle.frame.specs.Frame.{answerOf, Handed as Reading, Surveys}
 use Rattle.frame.specs.declared.Frame.{Frame}
+use Rattle.listing.specs.Text.{Prints}
 use Rattle.aim.specs.Aimed.{Handed as Asking, said, heightAt, planeAt}
 use Rattle.aim.specs.declared.HeightAnswer.{HeightAnswer}
 use Rattle.aim.specs.declared.PlaneAnswer.{PlaneAnswer}
@@ -41,6 +42,11 @@ pub record SameSurvey (r r′ : ℕ) (survey survey′ : List ℤ) : Type 0 wher
   pub answers : r ≡ r′
   pub surveyAtExit : survey ≡ survey′
 
+-- two outcomes of the listing are the same: the number of bytes, the bytes at exit
+pub record SameText (r r′ : ℕ) (out out′ : List ℕ) : Type 0 where
+  pub answers : r ≡ r′
+  pub bytesAtExit : out ≡ out′
+
 -- each public call, for everything that it may be handed; C's calls make the same promises, but for a height, which crosses as kind and bits
 pub record NoSecond : Type 0 where
   pub size : (m : ℕ) (r r′ : SizeAnswer) → r ≡ sizeAnswer m → r′ ≡ sizeAnswer m → r ≡ r′
@@ -53,4 +59,5 @@ pub record NoSecond : Type 0 where
   pub heights : (h : Reading) (r r′ : ℕ) (survey survey′ : List ℤ) → Surveys h r survey → Surveys h r′ survey′ → SameSurvey r r′ survey survey′
   pub height : (h : Asking) (r r′ : HeightAnswer) → said r ≡ heightAt h → said r′ ≡ heightAt h → r ≡ r′
   pub plane : (h : Asking) (r r′ : PlaneAnswer) → r ≡ planeAt h → r′ ≡ planeAt h → r ≡ r′
+  pub text : (input before : List ℕ) (r r′ : ℕ) (out out′ : List ℕ) → Prints input before r out → Prints input before r′ out′ → SameText r r′ out out′
   pub crossing : (h : Asking) (r r′ : Crossed) → r ≡ crossed (heightAt h) → r′ ≡ crossed (heightAt h) → r ≡ r′

@@ -1,5 +1,5 @@
--- One mesh: what demand 3 says of heights and origins, over any m and any kept set that is `Restricted`, of the triangles that cutting leaves; for
--- any heights, whatever may hold of a corner, and any count f at each sample. Definitions only.
+-- One mesh: what demand 3 says of heights and origins, over any m and any kept set that is `Restricted`, of the triangles that cutting leaves. It is
+-- said of any heights, of any property of a corner, and of any number f at each sample. Definitions only.
 use mathlib.Core.Path.{_≡_}
 use mathlib.Core.Bool.{Bool, true}
 use mathlib.Core.List.{List, List·Memᴰ}
