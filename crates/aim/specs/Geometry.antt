@@ -71,8 +71,7 @@ Share m t q p s w =
     side m * onward (quartered p) (quartered s) q ≡ side m * backward (quartered p) (quartered s) q + quarters * (area t * w)
 
 -- The weights of a point, given in quarter cells, at the corners of a triangle, these in counter-clockwise order: whole numbers that add up
--- to 4N, by which the point is the mean of the corners; and each is to 4N as the doubled area of the point and the other two corners is
--- to that of the triangle (in quarter cells: 16 times the triangle's own).
+-- to 4N, by which the point is the mean of the corners; and each is its corner's share of the triangle (`Share`).
 pub record Barycentric (m : ℕ) (t : Three) (q : Point) (first second third : ℕ) : Type 0 where
   pub sum : first + second + third ≡ inQuarters m
   pub east : first * t .first .x + second * t .second .x + third * t .third .x ≡ side m * q .x

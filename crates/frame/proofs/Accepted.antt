@@ -12,7 +12,7 @@ use borrow.Author.Tests.{lt-ltb, le-ltb, ltb-true, ltb-false, eq-eqb, ne-eqb, eq
 use Rattle.grid.specs.Grid.{samples}
 use Rattle.grid.specs.Refusal.{accepted, sizeAbove, inputForm}
 use Rattle.frame.specs.Bytes.{byteAt, numberAt}
-use Rattle.frame.specs.Frame.{lengthAt, versionAt, fieldBytes, version, largest, fewest, sizeIn, totalOf, lengthOf}
+use Rattle.frame.specs.Frame.{lengthAt, versionAt, fieldBytes, version, largestFramed, fewest, sizeIn, totalOf, lengthOf}
 use Rattle.frame.specs.Frame.{refusal, Handed, heightsRefusal}
 use Rattle.frame.specs.Rule.{Opens, Total, Turned, short, other, size, total, field, nothing}
 use Rattle.frame.specs.Rule.{Long, TurnedHeights, frame, buffer, none}
@@ -30,18 +30,18 @@ module _ (input : List ℕ) where
   pub turned : Turned input (refusal input)
   unfolding refusal
   turned =
-      go (ltb (length input) fewest) refl (eqb (byteAt input versionAt) version) refl (ltb largest (sizeIn input)) refl
+      go (ltb (length input) fewest) refl (eqb (byteAt input versionAt) version) refl (ltb largestFramed (sizeIn input)) refl
       (eqb (length input) (totalOf (sizeIn input))) refl (eqb says should) refl
     where
       go : (a : Bool) → ltb (length input) fewest ≡ a → (b : Bool) → eqb (byteAt input versionAt) version ≡ b →
-          (c : Bool) → ltb largest (sizeIn input) ≡ c → (d : Bool) → eqb (length input) (totalOf (sizeIn input)) ≡ d →
+          (c : Bool) → ltb largestFramed (sizeIn input) ≡ c → (d : Bool) → eqb (length input) (totalOf (sizeIn input)) ≡ d →
           (e : Bool) → eqb says should ≡ e →
           Turned input (cond a inputForm (cond (not b) inputForm (cond c sizeAbove (cond (not d) inputForm (cond (not e) inputForm accepted)))))
       go true ea b eb c ec d ed e ee = short (ltb-true _ _ ea)
       go false ea false eb c ec d ed e ee = other (ltb-false _ _ ea) (eqb-false _ _ eb)
       go false ea true eb c ec d ed e ee = opened (record { enough = ltb-false _ _ ea; versioned = eqb-true _ _ eb }) c ec d ed e ee
         where
-          opened : Opens input → (c : Bool) → ltb largest (sizeIn input) ≡ c → (d : Bool) → eqb (length input) (totalOf (sizeIn input)) ≡ d →
+          opened : Opens input → (c : Bool) → ltb largestFramed (sizeIn input) ≡ c → (d : Bool) → eqb (length input) (totalOf (sizeIn input)) ≡ d →
               (e : Bool) → eqb says should ≡ e →
               Turned input (cond c sizeAbove (cond (not d) inputForm (cond (not e) inputForm accepted)))
           opened o true ec d ed e ee = size o (ltb-true _ _ ec)
@@ -52,11 +52,11 @@ module _ (input : List ℕ) where
               nothing o (ltb-false _ _ ec) (eqb-true _ _ ed) (sym (eqb-true says should ee) ∙ four-is input lengthAt)
 
   -- past the version and m
-  past : Opens input → sizeIn input ≤ largest →
+  past : Opens input → sizeIn input ≤ largestFramed →
       refusal input ≡ cond (not (eqb (length input) (totalOf (sizeIn input)))) inputForm (cond (not (eqb says should)) inputForm accepted)
   unfolding refusal
   past o l =
-      rw (le-ltb (length input) fewest (o .enough), eq-eqb (byteAt input versionAt) version (o .versioned), le-ltb largest (sizeIn input) l)
+      rw (le-ltb (length input) fewest (o .enough), eq-eqb (byteAt input versionAt) version (o .versioned), le-ltb largestFramed (sizeIn input) l)
 
   -- and a number that has its case is the one given
   pub turned-only : {n : ℕ} → Turned input n → n ≡ refusal input
@@ -64,7 +64,7 @@ module _ (input : List ℕ) where
   turned-only (short l) = rw (lt-ltb (length input) fewest l)
   turned-only (other l v) = rw (le-ltb (length input) fewest l, ne-eqb (byteAt input versionAt) version v)
   turned-only (size o l) =
-      rw (le-ltb (length input) fewest (o .enough), eq-eqb (byteAt input versionAt) version (o .versioned), lt-ltb largest (sizeIn input) l)
+      rw (le-ltb (length input) fewest (o .enough), eq-eqb (byteAt input versionAt) version (o .versioned), lt-ltb largestFramed (sizeIn input) l)
   turned-only (total o l t) = sym (past o l ∙ rw (ne-eqb (length input) (totalOf (sizeIn input)) t))
   turned-only (field o l t f) =
       let wrong : eqb says should ≡ false = ne-eqb says should (λ e. f (sym e ∙ four-is input lengthAt)) in
@@ -75,7 +75,7 @@ module _ (input : List ℕ) where
 
   -- an input that is accepted
   pub record Accepted : Type 0 where
-    pub small : sizeIn input ≤ largest
+    pub small : sizeIn input ≤ largestFramed
     pub long : Total input
 
   pub accepted-input : refusal input ≡ accepted → Accepted

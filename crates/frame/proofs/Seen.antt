@@ -14,16 +14,16 @@ use lib.IntN.{ℤ}
 use Rattle.grid.specs.Grid.{side}
 use Rattle.grid.specs.Refusal.{accepted}
 use Rattle.frame.specs.Bytes.{byteAt}
-use Rattle.frame.specs.Frame.{versionAt, sizeAt, largest, totalOf, longest}
+use Rattle.frame.specs.Frame.{versionAt, sizeAt, largestFramed, totalOf, longest}
 use Rattle.frame.specs.Frame.{refusal, answerOf, handed, heightsRefusal, surveyAfter}
 use Rattle.frame.specs.Rule.{Opens, Total, Turned, short, other, size, total, field, nothing, frame}
 use Rattle.frame.proofs.Accepted.{turned, turned-only, heights-only}
 use Rattle.frame.proofs.Answered.{answering, answer-refused, survey-refused}
 
 -- no frame of a size up to the largest is longer than the longest
-pub total-most : {m : ℕ} → m ≤ largest → totalOf m ≤ longest
+pub total-most : {m : ℕ} → m ≤ largestFramed → totalOf m ≤ longest
 total-most {m} l =
-    let wide : side m + 1 ≤ side largest + 1 = omega (arith, pow-mono l) in omega (arith, mul-le-mul wide wide)
+    let wide : side m + 1 ≤ side largestFramed + 1 = omega (arith, pow-mono l) in omega (arith, mul-le-mul wide wide)
 
 abbrev pub seen : List ℕ → List ℕ
 seen input = take (suc longest) input
@@ -39,10 +39,10 @@ module _ (input : List ℕ) (long : longest < length input) where
   opens o = record { enough = rw seen-long (omega arith); versioned = same versionAt (omega arith) ∙ o .versioned }
 
   -- no total of its is right
-  never : byteAt input sizeAt ≤ largest → Total input → ⊥
+  never : byteAt input sizeAt ≤ largestFramed → Total input → ⊥
   never l t = omega (arith, total-most l)
 
-  wrong : byteAt input sizeAt ≤ largest → Total (seen input) → ⊥
+  wrong : byteAt input sizeAt ≤ largestFramed → Total (seen input) → ⊥
   wrong l t = omega (arith, total-most l, sym seen-long ∙ rw (same sizeAt (omega arith)) at t)
 
   again : {n : ℕ} → Turned input n → Turned (seen input) n

@@ -39,8 +39,8 @@ abbrev pub version : ℕ
 version = 1
 
 -- m is at most 5
-abbrev pub largest : ℕ
-largest = 5
+abbrev pub largestFramed : ℕ
+largestFramed = 5
 
 -- the fewest bytes that are looked into: those before the tolerance
 abbrev pub fewest : ℕ
@@ -66,14 +66,14 @@ lengthOf m = following + heightBytes * samples m
 
 -- the bytes of the longest valid frame
 abbrev pub longest : ℕ
-longest = totalOf largest
+longest = totalOf largestFramed
 
 -- Fewer than 6 bytes, or another version: 9. Then m above 5: 1. Then a wrong total or length field: 9. Else no refusal.
 unfoldable pub refusal : List ℕ → ℕ
 refusal input =
     cond (ltb (length input) fewest) inputForm
     (cond (not (eqb (byteAt input versionAt) version)) inputForm
-    (cond (ltb largest (sizeIn input)) sizeAbove
+    (cond (ltb largestFramed (sizeIn input)) sizeAbove
     (cond (not (eqb (length input) (totalOf (sizeIn input)))) inputForm
     (cond (not (eqb (numberAt input lengthAt fieldBytes) (lengthOf (sizeIn input)))) inputForm accepted))))
 

@@ -1,4 +1,4 @@
--- What functions inside the crate promise each other. Definitions only.
+-- What functions inside the crate promise each other. No rule rests on it. Definitions only.
 use mathlib.Core.Path.{_≡_}
 use mathlib.Core.List.{List}
 use Prim.Native.Nat.{ℕ, _<_}

@@ -9,7 +9,7 @@ use lib.ListN.{length}
 use lib.Pow.{pow-mono}
 use Rattle.grid.specs.Refusal.{accepted}
 use Rattle.grid.specs.Sizes.{sizeOf}
-use Rattle.frame.specs.Frame.{largest, sizeIn}
+use Rattle.frame.specs.Frame.{largestFramed, sizeIn}
 use Rattle.frame.proofs.Accepted.{accepted-input}
 use Rattle.selection.specs.Selected.{marksBy, heightsAfter, Selects}
 use Rattle.selection.specs.Selected.{answerOf as selectionAnswer, refusal as selectionRefusal}
@@ -29,7 +29,7 @@ abbrev pub meshed : List ℕ → List ℕ → Handed
 meshed input places = handed (marksBy (selected input)) (sizeIn input) places
 
 -- the most triangles of the program's sizes
-pub triangles-most : {m : ℕ} → m ≤ largest → sizeOf m .triangles ≤ sizeOf largest .triangles
+pub triangles-most : {m : ℕ} → m ≤ largestFramed → sizeOf m .triangles ≤ sizeOf largestFramed .triangles
 triangles-most {m} l = omega (arith, mul-le-mul (pow-mono l) (pow-mono l))
 
 module _ (input places : List ℕ) (room : Roomy places) (ok : refusal input ≡ accepted) where

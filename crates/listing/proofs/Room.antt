@@ -8,7 +8,7 @@ use native.Mathlib.Decide.{ℕ-discrete}
 use lib.ListN.{length, getD, drop, List·getD-append}
 use Rattle.grid.specs.Refusal.{accepted}
 use Rattle.grid.specs.Sizes.{sizeOf}
-use Rattle.frame.specs.Frame.{largest, sizeIn}
+use Rattle.frame.specs.Frame.{largestFramed, sizeIn}
 use Rattle.frame.proofs.Accepted.{accepted-input}
 use Rattle.mesh.specs.Meshed.{entriesEach}
 use Rattle.mesh.specs.Triangles.{mesh}
@@ -56,17 +56,17 @@ module _ {input places : List ℕ} (room : Roomy places) {r : Meshed} {places′
         ap (λ n. entriesEach * n) (read .many) ∙ sym (places-long (sizeIn input) (mesh (sizeIn input) (keptIn input)))
         ∙ ap length (sym (places-taken input ok))
 
-    few : r .triangles ≤ sizeOf largest .triangles
+    few : r .triangles ≤ sizeOf largestFramed .triangles
     few =
         omega (arith, told (lists-meshes input places room ok s) number .most, triangles-most (accepted-input input (formed input ok) .small))
 
   none : ¬ (refusal input ≡ accepted) → r .triangles ≡ 0
   none n = ap (λ (a : Meshed). a .triangles) (s .answer ∙ answer-refused input n)
 
-  pub held : (r .triangles ≤ sizeOf largest .triangles) × (entriesEach * r .triangles ≤ length places′)
+  pub held : (r .triangles ≤ sizeOf largestFramed .triangles) × (entriesEach * r .triangles ≤ length places′)
   held = by (ℕ-discrete (refusal input) accepted)
     where
-      by : Dec (refusal input ≡ accepted) → (r .triangles ≤ sizeOf largest .triangles) × (entriesEach * r .triangles ≤ length places′)
+      by : Dec (refusal input ≡ accepted) → (r .triangles ≤ sizeOf largestFramed .triangles) × (entriesEach * r .triangles ≤ length places′)
       by (yes ok) = (few ok, omega (arith, read ok .many, read ok .long))
       by (no n) = (omega (arith, none n), omega (arith, none n))
 

@@ -12,7 +12,7 @@ use lib.IntN.{pos}
 use Rattle.grid.specs.Grid.{samples}
 use Rattle.grid.specs.Refusal.{accepted}
 use Rattle.grid.specs.Sizes.{sizeOf}
-use Rattle.frame.specs.Frame.{largest, sizeIn, toleranceIn, surveyIn, Surveys}
+use Rattle.frame.specs.Frame.{largestFramed, sizeIn, toleranceIn, surveyIn, Surveys}
 use Rattle.frame.specs.Frame.{handed as reading, refusal as formRefusal}
 use Rattle.frame.specs.Rule.{Turned, Follows, none}
 use Rattle.frame.specs.declared.Frame.{Frame}
@@ -157,7 +157,7 @@ text-shows-over input places room =
 
 pub text-shows : (input : List ℕ) → Shows input (textIn input)
 text-shows input =
-    let n : ℕ = entriesEach * sizeOf largest .triangles in
+    let n : ℕ = entriesEach * sizeOf largestFramed .triangles in
     let places : List ℕ = replicate n 0 in
     text-shows-over input places (le-of-eq (sym (length-replicate {A = ℕ} n 0)))
 

@@ -1,4 +1,4 @@
--- What functions inside the crate promise each other. Definitions only.
+-- What functions inside the crate promise each other. No rule rests on it. Definitions only.
 use mathlib.Core.Path.{_≡_}
 use mathlib.Core.List.{List}
 use Prim.Native.Nat.{ℕ, suc, _*_, _≤_}
@@ -7,7 +7,7 @@ use lib.IntN.{ℤ}
 use Rattle.grid.specs.Grid.{samples}
 use Rattle.grid.specs.Refusal.{accepted}
 use Rattle.grid.specs.Sizes.{sizeOf}
-use Rattle.frame.specs.Frame.{largest, refusal, sizeIn, toleranceIn}
+use Rattle.frame.specs.Frame.{largestFramed, refusal, sizeIn, toleranceIn}
 use Rattle.mesh.specs.Meshed.{entriesEach, writtenOver}
 use Rattle.mesh.specs.Inner.{Put}
 use Rattle.mesh.specs.declared.Meshed.{Meshed}
@@ -16,7 +16,7 @@ use Rattle.listing.specs.Text.{textOf}
 
 -- room for the places of the most triangles that a frame has
 abbrev pub Roomy : List ℕ → Type 0
-Roomy places = entriesEach * sizeOf largest .triangles ≤ length places
+Roomy places = entriesEach * sizeOf largestFramed .triangles ≤ length places
 
 -- an accepted frame's m and tolerance, and three buffers of (N+1)² entries
 pub record Ready (input : List ℕ) (m tolerance : ℕ) (survey : List ℤ) (marks : List ℕ) (heights : List ℤ) : Type 0 where

@@ -12,7 +12,7 @@ use Rattle.grid.specs.Sizes.{sizeAnswer}
 use Rattle.grid.specs.declared.sizes.SizeAnswer.{SizeAnswer}
 use Rattle.grid.proofs.Sized.{within}
 use Rattle.frame.specs.Bytes.{numberAt}
-use Rattle.frame.specs.Frame.{lengthAt, heightsAt, fieldBytes, heightBytes, largest, following, sizeIn, refusal}
+use Rattle.frame.specs.Frame.{lengthAt, heightsAt, fieldBytes, heightBytes, largestFramed, following, sizeIn, refusal}
 use Rattle.frame.specs.Rule.{Opens, Total, short, other, size, total, field, nothing}
 use Rattle.frame.proofs.Numbers.{four-is}
 use Rattle.frame.proofs.Accepted.{turned-only}
@@ -26,11 +26,11 @@ use Rattle.grid.proofs.sizes.size_of.Reads as size-of-reads
 
 -- m is what the code was told of the size, and a what it holds
 module _ (input : List ℕ) (o : Opens input) (m : ℕ) (e : m ≡ sizeIn input) where
-  above : largest < m → sizeAbove ≡ refusal input
+  above : largestFramed < m → sizeAbove ≡ refusal input
   above l = turned-only input (size o (rw e at l))
 
-  module _ (l : m ≤ largest) (a : SizeAnswer) (s : a ≡ sizeAnswer m) where
-    small : sizeIn input ≤ largest
+  module _ (l : m ≤ largestFramed) (a : SizeAnswer) (s : a ≡ sizeAnswer m) where
+    small : sizeIn input ≤ largestFramed
     small = rw e at l
 
     many : a .size .samples ≡ samples (sizeIn input)

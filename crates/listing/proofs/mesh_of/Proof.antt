@@ -10,7 +10,7 @@ use Rattle.grid.specs.Refusal.{accepted}
 use Rattle.grid.specs.Sizes.{sizeAnswer}
 use Rattle.grid.specs.declared.sizes.SizeAnswer.{SizeAnswer}
 use Rattle.grid.proofs.Sized.{within}
-use Rattle.frame.specs.Frame.{largest, sizeIn, toleranceIn, answerOf, refusal}
+use Rattle.frame.specs.Frame.{largestFramed, sizeIn, toleranceIn, answerOf, refusal}
 use Rattle.frame.specs.declared.Frame.{Frame}
 use Rattle.frame.proofs.Accepted.{accepted-input}
 use Rattle.frame.proofs.Answered.{answer-taken, answer-refusal}
@@ -47,7 +47,7 @@ module _ (input : List ℕ) (r : Frame) (e : r ≡ answerOf input) where
         let t = e ∙ answer-taken input ok in
         (ap (λ (a : Frame). a .m) t, ap (λ (a : Frame). a .tolerance) t)
 
-    small : r .m ≤ largest
+    small : r .m ≤ largestFramed
     small = rw (taken .0) (accepted-input input ok .small)
 
     many : a .size .samples ≡ samples (r .m)
