@@ -18,7 +18,7 @@ use Rattle.grid.proofs.Level.{level-most}
 use Rattle.grid.proofs.Places.{place-below, place-point, point-place}
 use Rattle.grid.proofs.Reach.{between}
 use Rattle.survey.specs.Filled.{floorMean, heightOf, CornersSurveyed}
-use Rattle.survey.specs.Inner.{depth, Stands, VoidAt, Partly, Swept, Run, RunFilled}
+use Rattle.survey.specs.Inner.{depth, Stands, IsVoid, VoidAt, Partly, Swept, Run, RunFilled}
 use Rattle.survey.proofs.Filling.{height-void, void-inner}
 use Rattle.survey.proofs.Mean.{mean-above, above-height, height-not-void, not-void-above}
 use Rattle.survey.proofs.Partial.{at-point, settled, partly-none, partly-kept}
@@ -55,7 +55,7 @@ reached {m} {i} {d} h =
     named q inside k e = ap (point m) e ∙ point-place m q inside
 
 -- a void is no grid corner
-pub void-at : {m i d : ℕ} (h : List ℤ) → CornersSurveyed m h → Inside m (point m i) → isVoid (getD h i void) ≡ true →
+pub void-at : {m i d : ℕ} (h : List ℤ) → CornersSurveyed m h → Inside m (point m i) → IsVoid h i →
     d ≡ reachBy (kind m (point m i)) (side m) (spacing m (point m i)) → VoidAt m h i d
 void-at {m} {i} h corners inside v e =
     record {
@@ -78,11 +78,11 @@ alone {m} {i} {d} v =
     same k l = omega arith
 
 -- where it was run, or a height stood, one stands
-pub ran : {m : ℕ} {a b c : List ℤ} (i : ℕ) → b ≡ c → Swept m a c (RunFilled c i (i + 1) 1) → Swept m a b (Stands b i)
-ran {c = c} i e f =
+pub ran : {m : ℕ} {a c : List ℤ} (i : ℕ) → Swept m a c (RunFilled c i (i + 1) 1) → Swept m a c (Stands c i)
+ran {c = c} i f =
     let first : i + 1 * 0 ≡ i = omega arith in
     let stand : Stands c i = rw first at (f .stand 0 (omega arith)) in
-    rw e (record { partly = f .partly; stand = stand })
+    record { partly = f .partly; stand = stand }
 
 pub stood : (m i : ℕ) {a b : List ℤ} → b ≡ a → Stands a i → Swept m a b (Stands b i)
 stood m i {a} e h = rw e (record { partly = partly-none m a; stand = h })

@@ -36,10 +36,13 @@ Stands heights i = isVoid (getD heights i void) ≡ false
 abbrev pub NoVoid : List ℤ → Type 0
 NoVoid heights = (i : ℕ) → i < length heights → Stands heights i
 
+abbrev pub IsVoid : List ℤ → ℕ → Type 0
+IsVoid heights i = isVoid (getD heights i void) ≡ true
+
 -- a void at place i, whose ends lie reach places before and behind it
 pub record VoidAt (m : ℕ) (heights : List ℤ) (i reach : ℕ) : Type 0 where
   pub spread : Spread m (point m i) reach
-  pub is : isVoid (getD heights i void) ≡ true
+  pub is : IsVoid heights i
 
 -- partly filled: each entry is as it was or is its point's height
 pub record Partly (m : ℕ) (survey heights : List ℤ) : Type 0 where

@@ -2,12 +2,13 @@
 use super::floor_mean;
 use grid::Grid;
 use grid::points::reach_at;
-ghost use Rattle.grid.specs.Grid.{at};
+ghost use Prim.Native.Nat.{_<_};
+ghost use Rattle.grid.specs.Grid.{at, samples};
 ghost use Rattle.grid.specs.Inner.{Power, Spread};
-ghost use Rattle.survey.specs.Inner.{Ready, VoidAt, Stands, Swept, Run, RunFilled, Row, RowFilled, RowsFilled, NoVoid};
+ghost use Rattle.survey.specs.Inner.{Ready, IsVoid, VoidAt, Stands, Swept, Run, RunFilled, Row, RowFilled, RowsFilled, NoVoid};
 
 // The height of a void, whose ends lie reach places before and behind it: recurses to an end that is void too. What was found is kept
-// in heights, so that no height is worked out twice. An end is a run of one place: so the compiler can put this step into a run's loop.
+// in heights, so that no height is worked out twice.
 fn fill_void(g: Grid, i: usize, reach: usize, heights: &mut [i16])
     requires { ⌜ Ready g (now heights) × VoidAt (g .m) (now heights) i reach ⌝ }
     ensures { λ _. ⌜ Swept (g .m) (now (heights .entry)) (now (heights .exit)) (Stands (now (heights .exit)) i) ⌝ }
@@ -15,12 +16,21 @@ fn fill_void(g: Grid, i: usize, reach: usize, heights: &mut [i16])
     let before = i - reach;
     let behind = i + reach;
     if Grid::is_void(heights[before]) {
-        fill_run(g, before, before + 1, 1, reach_at(g, before), heights);
+        fill_end(g, before, heights);
     }
     if Grid::is_void(heights[behind]) {
-        fill_run(g, behind, behind + 1, 1, reach_at(g, behind), heights);
+        fill_end(g, behind, heights);
     }
-    heights[i] = floor_mean(heights[before], heights[behind]);
+    let mean = floor_mean(heights[before], heights[behind]);
+    heights[i] = mean;
+}
+
+// A void end is a run of one place: by way of a run, so that the compiler can put a void's step into the loop.
+fn fill_end(g: Grid, i: usize, heights: &mut [i16])
+    requires { ⌜ Ready g (now heights) × (i < samples (g .m)) × IsVoid (now heights) i ⌝ }
+    ensures { λ _. ⌜ Swept (g .m) (now (heights .entry)) (now (heights .exit)) (Stands (now (heights .exit)) i) ⌝ }
+{
+    fill_run(g, i, i + 1, 1, reach_at(g, i), heights);
 }
 
 // The points at the places from, from + step, .. below to.

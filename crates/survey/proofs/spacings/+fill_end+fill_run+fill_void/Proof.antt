@@ -1,4 +1,4 @@
--- `survey::spacings::fill_run` and `fill_void` meet their contracts. The measure is the depth below the largest spacing, which falls from a
+-- `survey::spacings::fill_end`, `fill_run` and `fill_void` meet their contracts. The measure is the depth below the largest spacing, which falls from a
 -- void to its ends. The loop's invariant: the heights are partly filled, and stand at the places behind.
 use mathlib.Core.Path.{_≡_, _∙_}
 use mathlib.Core.Logic.{⊎-elim}
@@ -10,7 +10,7 @@ use mir.Syntax.{w16}
 use mir.Val.{SFits}
 use mir.Facts.{toZ-ofZ}
 use Rattle.grid.specs.Grid.{samples, largest, point}
-use Rattle.grid.proofs.Places.{samples-small}
+use Rattle.grid.proofs.Places.{point-inside, samples-small}
 use Rattle.survey.specs.Filled.{floorMean}
 use Rattle.survey.specs.Inner.{depth, Stands, Partly, Swept}
 use Rattle.survey.proofs.Finding.{Reached, reached, void-at, alone, ran, stood, kept}
@@ -20,24 +20,36 @@ use Rattle.survey.proofs.Runs.{Along, along-first, along-on, along-last
 use borrow.Author.Needs.{needs}
 use borrow.Fn.Kinds.{In}
 use borrow.Fn.PlainCycle.{Measures, is, falls, and}
+use Rattle.survey.proofs.spacings.fill_end.Reads as fill-end
+use Rattle.survey.proofs.spacings.fill_end.Kinds as fill-end-kinds
+use Rattle.survey.proofs.spacings.+fill_end+fill_run+fill_void.Lts-fill_end as fill-end-lts
 use Rattle.survey.proofs.spacings.fill_run.Reads as fill-run
 use Rattle.survey.proofs.spacings.fill_run.Kinds as fill-run-kinds
-use Rattle.survey.proofs.spacings.+fill_run+fill_void.Lts-fill_run as fill-run-lts
+use Rattle.survey.proofs.spacings.+fill_end+fill_run+fill_void.Lts-fill_run as fill-run-lts
 use Rattle.survey.proofs.spacings.fill_void.Reads as fill-void
 use Rattle.survey.proofs.spacings.fill_void.Kinds as fill-void-kinds
-use Rattle.survey.proofs.spacings.+fill_run+fill_void.Lts-fill_void as fill-void-lts
+use Rattle.survey.proofs.spacings.+fill_end+fill_run+fill_void.Lts-fill_void as fill-void-lts
 use Rattle.grid.proofs.Grid.is_void.Reads as is-void-reads
 use Rattle.survey.proofs.floor_mean.Reads as floor-mean-reads
 use Rattle.grid.proofs.points.reach_at.Reads as reach-at-reads
-use Rattle.survey.proofs.spacings.+fill_run+fill_void.{statement}
-use Rattle.survey.proofs.spacings.+fill_run+fill_void.Tie.{close}
+use Rattle.survey.proofs.spacings.+fill_end+fill_run+fill_void.{statement}
+use Rattle.survey.proofs.spacings.+fill_end+fill_run+fill_void.Tie.{close}
 
--- a run comes before its voids, and a void before the runs that its ends are
+-- an end comes before its run, a run before its voids, and a void before its ends
+abbrev μ-fill-end : Measures 1 fill-end-kinds.ps ℕ
+μ-fill-end κs a = 3 * depth (a .0 .m) (point (a .0 .m) (a .1 .0)) + 2
+
 abbrev μ-fill-run : Measures 1 fill-run-kinds.ps ℕ
-μ-fill-run κs a = 2 * depth (a .0 .m) (point (a .0 .m) (a .1 .0)) + 1
+μ-fill-run κs a = 3 * depth (a .0 .m) (point (a .0 .m) (a .1 .0)) + 1
 
 abbrev μ-fill-void : Measures 1 fill-void-kinds.ps ℕ
-μ-fill-void κs a = 2 * depth (a .0 .m) (point (a .0 .m) (a .1 .0))
+μ-fill-void κs a = 3 * depth (a .0 .m) (point (a .0 .m) (a .1 .0))
+
+abbrev fill-end-at : ℕ → In 1 fill-end-kinds.ps
+fill-end-at t = and 1 fill-end-kinds.ps (is 1 fill-end-kinds.ps μ-fill-end t) fill-end.Pre
+
+abbrev fill-end-below : ℕ → In 1 fill-end-kinds.ps
+fill-end-below t = and 1 fill-end-kinds.ps (falls 1 fill-end-kinds.ps _<_ μ-fill-end t) fill-end.Pre
 
 abbrev fill-run-at : ℕ → In 1 fill-run-kinds.ps
 fill-run-at t = and 1 fill-run-kinds.ps (is 1 fill-run-kinds.ps μ-fill-run t) fill-run.Pre
@@ -59,13 +71,14 @@ abbrev void-calls : ℕ → fill-void-lts.Claims
 void-calls t = (
   is-void-reads.Asked,
   is-void-reads.Learnt,
-  reach-at-reads.Asked,
-  reach-at-reads.Learnt,
-  fill-run-below t,
-  fill-run.Post,
+  fill-end-below t,
+  fill-end.Post,
   floor-mean-reads.Asked,
   floor-mean-reads.Learnt,
 )
+
+abbrev end-calls : ℕ → fill-end-lts.Claims
+end-calls t = (reach-at-reads.Asked, reach-at-reads.Learnt, fill-run-below t, fill-run.Post)
 
 abbrev Inv : fill-run-lts.InvT-loop
 Inv g from to step reach heights₀ i₀ heights i = Partly (g .m) heights₀ heights × Along heights from step i
@@ -180,23 +193,14 @@ fill-void-slice-copy-out-is-void t c = omega (arith, ends c)
 fill-void-is-void-requires : (t : ℕ) → fill-void-lts.Need-is-void-requires (void-calls t) (fill-void-at t) fill-void.Post
 fill-void-is-void-requires t c κs = search needs
 
-fill-void-add-fill-run : (t : ℕ) → fill-void-lts.Need-add-fill-run (void-calls t) (fill-void-at t) fill-void.Post
-fill-void-add-fill-run t c = record { fits = omega (arith, ends (c .before .before .before)) }
-
-fill-void-reach-at-requires : (t : ℕ) → fill-void-lts.Need-reach-at-requires (void-calls t) (fill-void-at t) fill-void.Post
-fill-void-reach-at-requires t c κs =
-    let s = c .before .before .before in (s .pre .1 .0 .sound, omega (arith, ends s))
-
-fill-void-fill-run-requires : (t : ℕ) → fill-void-lts.Need-fill-run-requires (void-calls t) (fill-void-at t) fill-void.Post
-fill-void-fill-run-requires t c κs =
-    let s = c .before .before .before .before .before in
+fill-void-fill-end-requires : (t : ℕ) → fill-void-lts.Need-fill-end-requires (void-calls t) (fill-void-at t) fill-void.Post
+fill-void-fill-end-requires t c κs =
+    let s = c .before .before .before .before in
     let r = ends s in
-    let h = s .args .heights .now in
     let void =
-    tested h (omega (arith, r)) (record { sfits = c .before .before .before .before .is-void-arg .given }) (c .before .before .before .is-void .ensures)
-    (c .before .before .if1 .taken) in
-    let end = void-at h (s .pre .1 .0 .corners) (r .0 .before .0) void (c .before .reach-at .ensures) in
-    (omega (arith, s .pre .0, r .0 .before .1), (s .pre .1 .0, alone end))
+    tested (s .args .heights .now) (omega (arith, r)) (record { sfits = c .before .before .before .is-void-arg .given }) (c .before .before .is-void .ensures)
+    (c .before .if1 .taken) in
+    (omega (arith, s .pre .0, r .0 .before .1), (s .pre .1 .0, omega (arith, r), void))
 
 -- where one end stands
 abbrev Half : ℕ → Type 0
@@ -211,7 +215,7 @@ first : {t : ℕ} (c : Half t) → First t c
 first {t} c =
     let s = c .before .before .before in
     let r = ends s in
-    ⊎-elim {C = First t c} (λ w. ran _ (w .5) (w .3 .ensures))
+    ⊎-elim {C = First t c} (λ w. rw (w .4) (w .2 .ensures))
     (λ w.
     stood _ _ (w .1)
     (tested (s .args .heights .now) (omega (arith, r)) (record { sfits = c .before .before .is-void-arg .given }) (c .before .is-void .ensures) (w .0 .left)))
@@ -226,25 +230,16 @@ fill-void-slice-copy-out-is-void-2 t c = omega (arith, ends (c .before .before .
 fill-void-is-void-requires-2 : (t : ℕ) → fill-void-lts.Need-is-void-requires-2 (void-calls t) (fill-void-at t) fill-void.Post
 fill-void-is-void-requires-2 t c κs = search needs
 
-fill-void-add-fill-run-2 : (t : ℕ) → fill-void-lts.Need-add-fill-run-2 (void-calls t) (fill-void-at t) fill-void.Post
-fill-void-add-fill-run-2 t c = record { fits = omega (arith, ends (c .before .before .before .before .before .before)) }
-
-fill-void-reach-at-requires-2 : (t : ℕ) → fill-void-lts.Need-reach-at-requires-2 (void-calls t) (fill-void-at t) fill-void.Post
-fill-void-reach-at-requires-2 t c κs =
-    let s = c .before .before .before .before .before .before in (s .pre .1 .0 .sound, omega (arith, ends s))
-
-fill-void-fill-run-requires-2 : (t : ℕ) → fill-void-lts.Need-fill-run-requires-2 (void-calls t) (fill-void-at t) fill-void.Post
-fill-void-fill-run-requires-2 t c κs =
-    let half = c .before .before .before .before .before in
+fill-void-fill-end-requires-2 : (t : ℕ) → fill-void-lts.Need-fill-end-requires-2 (void-calls t) (fill-void-at t) fill-void.Post
+fill-void-fill-end-requires-2 t c κs =
+    let half = c .before .before .before .before in
     let s = half .before .before .before in
     let r = ends s in
-    let h = half .if1 .heights in
     let ready = ready-on (s .pre .1 .0) (first half .partly) in
     let void =
-    tested h (omega (arith, r, ready .long)) (record { sfits = c .before .before .before .before .is-void-arg2 .given }) (c .before .before .before .is-void2 .ensures)
-    (c .before .before .if2 .taken) in
-    let end = void-at h (ready .corners) (r .0 .behind .0) void (c .before .reach-at2 .ensures) in
-    (omega (arith, s .pre .0, r .0 .behind .1), (ready, alone end))
+    tested (half .if1 .heights) (omega (arith, r, ready .long)) (record { sfits = c .before .before .before .is-void-arg2 .given }) (c .before .before .is-void2 .ensures)
+    (c .before .if2 .taken) in
+    (omega (arith, s .pre .0, r .0 .behind .1), (ready, omega (arith, r), void))
 
 -- where both ends stand
 abbrev Whole : ℕ → Type 0
@@ -261,7 +256,7 @@ second {t} c =
     let half = c .before .before .before in
     let s = half .before .before .before in
     let r = ends s in
-    ⊎-elim {C = Second t c} (λ w. ran _ (w .5) (w .3 .ensures))
+    ⊎-elim {C = Second t c} (λ w. rw (w .4) (w .2 .ensures))
     (λ w.
     stood _ _ (w .1)
     (tested (half .if1 .heights) (omega (arith, r, first half .partly .long)) (record { sfits = c .before .before .is-void-arg2 .given }) (c .before .is-void2 .ensures) (w .0 .left)))
@@ -287,11 +282,11 @@ fill-void-slice-copy-out-floor-mean-2 t c = omega (arith, ends (c .before .befor
 fill-void-floor-mean-requires : (t : ℕ) → fill-void-lts.Need-floor-mean-requires (void-calls t) (fill-void-at t) fill-void.Post
 fill-void-floor-mean-requires t c κs = search needs
 
-fill-void-mul-t28 : (t : ℕ) → fill-void-lts.Need-mul-t28 (void-calls t) (fill-void-at t) fill-void.Post
-fill-void-mul-t28 t c = omega (arith, ends (c .before .before .before .before .before .before .before .before .before))
+fill-void-mul-mean : (t : ℕ) → fill-void-lts.Need-mul-mean (void-calls t) (fill-void-at t) fill-void.Post
+fill-void-mul-mean t c = omega (arith, ends (c .before .before .before .before .before .before .before .before .before))
 
-fill-void-slice-set-from-heights : (t : ℕ) → fill-void-lts.Need-slice-set-from-heights (void-calls t) (fill-void-at t) fill-void.Post
-fill-void-slice-set-from-heights t c = omega (arith, ends (c .before .before .before .before .before .before .before .before .before), both (c .before .before .before) .long)
+fill-void-slice-set-from-mean : (t : ℕ) → fill-void-lts.Need-slice-set-from-mean (void-calls t) (fill-void-at t) fill-void.Post
+fill-void-slice-set-from-mean t c = omega (arith, ends (c .before .before .before .before .before .before .before .before .before), both (c .before .before .before) .long)
 
 fill-void-same-length : (t : ℕ) → fill-void-lts.Need-same-length (void-calls t) (fill-void-at t) fill-void.Post
 fill-void-same-length t c = simp length-set (both (c .before .before .before) .long)
@@ -313,8 +308,34 @@ fill-void-returns t c =
     let one = stays _ _ _ (second whole .partly) _ (omega (arith, r)) (first half .stand) in
     kept _ _ _ _ _ (r .1) (s .pre .1 .1) part one (second whole .stand) (fits-at h low x) (fits-at h high y) mean
 
-pub +fill-run+fill-void-spec : {M : Type 1} → statement M
-+fill-run+fill-void-spec = close μ-fill-run μ-fill-void (λ t. fill-run-lts.spec (run-calls t)
+fill-end-add-fill-run : (t : ℕ) → fill-end-lts.Need-add-fill-run (end-calls t) (fill-end-at t) fill-end.Post
+fill-end-add-fill-run t c = let s = c .pre .1 in record { fits = omega (arith, s .1, samples-small (s .0 .sound .small)) }
+
+fill-end-reach-at-requires : (t : ℕ) → fill-end-lts.Need-reach-at-requires (end-calls t) (fill-end-at t) fill-end.Post
+fill-end-reach-at-requires t c κs = (c .pre .1 .0 .sound, c .pre .1 .1)
+
+fill-end-fill-run-requires : (t : ℕ) → fill-end-lts.Need-fill-run-requires (end-calls t) (fill-end-at t) fill-end.Post
+fill-end-fill-run-requires t c κs =
+    let s = c .before .before in
+    let end = void-at (s .args .heights .now) (s .pre .1 .0 .corners) (point-inside _ _ (s .pre .1 .1)) (s .pre .1 .2) (c .before .reach-at .ensures) in
+    (omega (arith, s .pre .0), (s .pre .1 .0, alone end))
+
+fill-end-same-length : (t : ℕ) → fill-end-lts.Need-same-length (end-calls t) (fill-end-at t) fill-end.Post
+fill-end-same-length t c = c .before .fill-run .ensures .partly .long
+
+fill-end-returns : (t : ℕ) → fill-end-lts.Need-returns (end-calls t) (fill-end-at t) fill-end.Post
+fill-end-returns t c = ran _ (c .before .fill-run .ensures)
+
+pub +fill-end+fill-run+fill-void-spec : {M : Type 1} → statement M
++fill-end+fill-run+fill-void-spec = close μ-fill-end μ-fill-run μ-fill-void (λ t. fill-end-lts.spec (end-calls t)
+    (fill-end-at t)
+    fill-end.Post
+    (fill-end-add-fill-run t)
+    (fill-end-reach-at-requires t)
+    (fill-end-fill-run-requires t)
+    (fill-end-same-length t)
+    (fill-end-returns t))
+    (λ t. fill-run-lts.spec (run-calls t)
     (fill-run-at t)
     fill-run.Post
     Inv
@@ -337,21 +358,17 @@ pub +fill-run+fill-void-spec : {M : Type 1} → statement M
     (fill-void-mul-is-void t)
     (fill-void-slice-copy-out-is-void t)
     (fill-void-is-void-requires t)
-    (fill-void-add-fill-run t)
-    (fill-void-reach-at-requires t)
-    (fill-void-fill-run-requires t)
+    (fill-void-fill-end-requires t)
     (fill-void-mul-is-void-2 t)
     (fill-void-slice-copy-out-is-void-2 t)
     (fill-void-is-void-requires-2 t)
-    (fill-void-add-fill-run-2 t)
-    (fill-void-reach-at-requires-2 t)
-    (fill-void-fill-run-requires-2 t)
+    (fill-void-fill-end-requires-2 t)
     (fill-void-mul-floor-mean t)
     (fill-void-slice-copy-out-floor-mean t)
     (fill-void-mul-floor-mean-2 t)
     (fill-void-slice-copy-out-floor-mean-2 t)
     (fill-void-floor-mean-requires t)
-    (fill-void-mul-t28 t)
-    (fill-void-slice-set-from-heights t)
+    (fill-void-mul-mean t)
+    (fill-void-slice-set-from-mean t)
     (fill-void-same-length t)
     (fill-void-returns t)
