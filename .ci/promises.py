@@ -43,6 +43,19 @@ def says_nothing_of(call, head):
     return faults
 
 
+def once_faults(contracts, sources):
+    """Of each function that another crate can call: that no second answer fits its contract, as the checker has it."""
+    faults = []
+    for path, text in sources.items():
+        for name, _ in functions_of(path, text):
+            crate, *inner = name.split("::")
+            read = re.search(rf"^use Rattle\.{crate}\.proofs\.{re.escape('.'.join(inner))}\.Reads as ([\w-]+)$", contracts, re.M)
+            said = read and re.search(rf"^pub {read[1]}-once : .* → {read[1]}\.Learnt k a r o → {read[1]}\.Learnt k a r′ o′ →", contracts, re.M)
+            if not said:
+                faults.append(f"{name}: crates/settled/proofs/Contracts.antt does not say that no second answer fits its contract")
+    return faults
+
+
 def promise_faults(document, sources):
     """`sources`: the text of each file of the libraries, by its path."""
     found, faults = {}, []

@@ -74,12 +74,12 @@ pub heights-once : (k : _) (a : _) (r r′ : ℕ) (o o′ : _) → heights.Learn
     SameSurvey r r′ (now (o .1 .0)) (now (o′ .1 .0))
 heights-once k a r r′ o o′ p q = no-second .heights _ r r′ _ _ p q
 
-pub text-once : (k : _) (a : _) (r r′ : ℕ) (o o′ : _) → text-of.Learnt k a r o → text-of.Learnt k a r′ o′ →
+pub text-of-once : (k : _) (a : _) (r r′ : ℕ) (o o′ : _) → text-of.Learnt k a r o → text-of.Learnt k a r′ o′ →
     SameText r r′ (now (o .1 .0)) (now (o′ .1 .0))
-text-once k a r r′ o o′ p q = no-second .text _ _ r r′ _ _ p q
+text-of-once k a r r′ o o′ p q = no-second .text _ _ r r′ _ _ p q
 
-pub size-once : (k : _) (a : _) (r r′ : SizeAnswer) (o o′ : _) → size-of.Learnt k a r o → size-of.Learnt k a r′ o′ → r ≡ r′
-size-once k a r r′ o o′ p q = no-second .size (a .0) r r′ p q
+pub size-of-once : (k : _) (a : _) (r r′ : SizeAnswer) (o o′ : _) → size-of.Learnt k a r o → size-of.Learnt k a r′ o′ → r ≡ r′
+size-of-once k a r r′ o o′ p q = no-second .size (a .0) r r′ p q
 
 -- C's calls
 pub c-select-once : (k : _) (a : _) (r r′ : Selected) (o o′ : _) → c-select.Learnt k a r o → c-select.Learnt k a r′ o′ →
