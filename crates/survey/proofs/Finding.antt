@@ -1,6 +1,5 @@
 -- The ends of a void lie before and behind it and are less deep; and the mean of what stands there is its height, which is not void.
 use mathlib.Core.Path.{_≡_, sym, ap, _∙_, subst}
-use mathlib.Core.Bool.{true}
 use mathlib.Core.List.{List}
 use Prim.Native.Nat.{ℕ, _+_, _-_, _*_, _≤_, _<_}
 use native.Mathlib.Omega.{arith}
