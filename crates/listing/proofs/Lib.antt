@@ -6,5 +6,6 @@ pub mod Promised
 pub mod Prefix
 pub mod Joined
 pub mod Spelt
+pub mod Printed
 pub mod Room
 pub mod Values

@@ -31,9 +31,10 @@ use Rattle.mesh.specs.declared.Meshed.{Meshed}
 use Rattle.listing.specs.Program.{selected, refusal, answerIn, placesIn}
 use Rattle.listing.specs.Text.{textOf, textIn}
 use Rattle.listing.specs.Inner.{Roomy, Ready, Lists}
-use Rattle.listing.specs.Rule.{Refuses, Selecting, Runs, form, selection, triangles, Shows}
+use Rattle.listing.specs.Rule.{Refuses, Selecting, Runs, form, selection, triangles, Printed, Shows}
 use Rattle.listing.proofs.Cases.{turnedDown, refusal-form, refusal-selection, answer-refused, answer-refusal, places-refused}
 use Rattle.listing.proofs.Steps.{lists-refused, lists-meshes, refused-in, meshed-in}
+use Rattle.listing.proofs.Printed.{printed, printed-only}
 use Rattle.listing.proofs.Room.{text-listed}
 
 -- what is listed follows the sentences
@@ -152,7 +153,7 @@ text-shows-over input places room =
       room = omega (arith, room);
       after = writtenOver (placesIn input) places;
       runs = lists-runs room s;
-      printed = sym (text-listed room s);
+      printed = subst (Printed (answerIn input) (writtenOver (placesIn input) places)) (text-listed room s) (printed _ _);
     }
 
 pub text-shows : (input : List ℕ) → Shows input (textIn input)
@@ -164,7 +165,7 @@ text-shows input =
 -- and no second one
 pub shows-text : {input text : List ℕ} → Shows input text → text ≡ textIn input
 shows-text s =
-    let room : Roomy (s .before) = omega (arith, s .room) in s .printed ∙ text-listed room (runs-lists room (s .runs))
+    let room : Roomy (s .before) = omega (arith, s .room) in printed-only (s .printed) ∙ text-listed room (runs-lists room (s .runs))
 
 pub shows-only : {input a b : List ℕ} → Shows input a → Shows input b → a ≡ b
 shows-only s t = shows-text s ∙ sym (shows-text t)
