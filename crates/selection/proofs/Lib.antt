@@ -6,6 +6,7 @@ pub mod Corners
 pub mod Accepted
 pub mod Counts
 pub mod Counted
+pub mod Counting
 pub mod Exact
 pub mod Within
 pub mod InTurn

@@ -1,15 +1,15 @@
 -- What the promise of selection means, in the document's sentences, of any answer and buffers that meet it; and whatever follows
 -- those sentences meets the promise. So the sentences leave nothing open.
-use mathlib.Core.Path.{_≡_, refl, sym, ap, _∙_}
+use mathlib.Core.Path.{_≡_, refl, sym, ap, _∙_, subst}
 use mathlib.Core.Bool.{Bool, true, false, cond}
 use mathlib.Core.List.{List}
 use mathlib.Core.Logic.{⊎-elim, _↔_, _≢_}
-use Prim.Native.Nat.{ℕ, _*_}
+use Prim.Native.Nat.{ℕ, _*_, _≤_}
 use native.Mathlib.Decide.{ℕ-discrete}
 use lib.ListN.{getD}
 use lib.IntN.{ℤ}
 use borrow.Author.Tests.{eq-eqb, eqb-true, ltb-true, lt-ltb}
-use Rattle.grid.specs.Grid.{Inside, point}
+use Rattle.grid.specs.Grid.{Inside, point, isVoid}
 use Rattle.grid.specs.Points.{isCorner}
 use Rattle.grid.specs.Mark.{leftOut, forError, forCorner, goodMark, keptMark, filledMark}
 use Rattle.grid.specs.Refusal.{accepted}
@@ -25,13 +25,14 @@ use Rattle.selection.specs.Error.{over}
 use Rattle.selection.specs.Kept.{kept}
 use Rattle.selection.specs.Marks.{markBy, mark, marksOf, markAt, count, markedOwn, markedDependence}
 use Rattle.selection.specs.Selected.{Handed, refusal, marksBy, Selects}
-use Rattle.selection.specs.Rule.{Least, Turned, Untouched, Selection, OffItsEnds, ByTolerance, Follows, Told}
+use Rattle.selection.specs.Rule.{Least, Turned, Untouched, SoMany, Selection, OffItsEnds, ByTolerance, Follows, Told}
 use Rattle.selection.specs.declared.Selected.{Selected}
 use Rattle.selection.proofs.Least.{kept-least, least-only}
 use Rattle.selection.proofs.Marked.{kept-mark, good-mark, mark-own, mark-dependent, void-mark, own-surveyed, corners-within}
 use Rattle.selection.proofs.Within.{exceeding-filled}
 use Rattle.selection.proofs.Accepted.{turned, turned-only, accepted-handed}
 use Rattle.selection.proofs.Counted.{marks-long, count-voids}
+use Rattle.selection.proofs.Counting.{counted, counted-only, own-says, dependence-says, filled-says}
 use Rattle.selection.proofs.Answered.{taken, refused, answer-taken, marks-taken, heights-taken}
 use Rattle.selection.proofs.Answered.{answer-refused, marks-refused, heights-refused, answer-refusal}
 
@@ -79,9 +80,9 @@ module _ (h : Handed) where
           ownMarks = λ p k. (λ e. sym (own-at p k) ∙ eq-eqb _ forError e, λ e. eqb-true _ forError (own-at p k ∙ e));
           voidMarks = λ p k. rw (mark-at p k) (void-mark (h .m) (h .survey) isOver (accepted-handed h ok .corners) p);
           fills = filled-fills (h .m) (h .survey);
-          ownCount = refl;
-          dependentCount = refl;
-          voidCount = refl;
+          ownCount = counted markedOwn _ own-says (marksBy h);
+          dependentCount = counted markedDependence _ dependence-says (marksBy h);
+          voidCount = counted isVoid _ (λ x. (λ e. e, λ e. e)) (h .survey);
         }
 
     off : (p : Point) → isOver p ≡ true → OffItsEnds (h .m) (h .tolerance) (h .survey) heightsBy p
@@ -98,7 +99,9 @@ module _ (h : Handed) where
         let a = accepted-handed h ok in
         record {
           dependence = λ p k. rw (kept-at p k) (ap markedDependence (mark-at p k) ∙ mark-dependent (h .m) (h .survey) isOver p);
-          voids = sym (count-voids (h .m) (h .survey) (a .lengths .survey) isOver (a .corners));
+          voids =
+              subst (SoMany (λ k. 4 ≤ k) (marksBy h)) (count-voids (h .m) (h .survey) (a .lengths .survey) isOver (a .corners))
+              (counted filledMark _ filled-says (marksBy h));
         }
 
 module _ {h : Handed} {r : Selected} {marks : List ℕ} {heights : List ℤ} (s : Selects h r marks heights) where
@@ -197,9 +200,9 @@ module _ (h : Handed) {r : Selected} {marks : List ℕ} {heights : List ℤ} (ok
       λ i.
       record {
         refusal = e i;
-        own = (s .ownCount ∙ ap (count markedOwn) marks-by) i;
-        dependent = (s .dependentCount ∙ ap (count markedDependence) marks-by) i;
-        voids = s .voidCount i;
+        own = (counted-only markedOwn _ own-says (s .ownCount) ∙ ap (count markedOwn) marks-by) i;
+        dependent = (counted-only markedDependence _ dependence-says (s .dependentCount) ∙ ap (count markedDependence) marks-by) i;
+        voids = counted-only isVoid _ (λ x. (λ e. e, λ e. e)) (s .voidCount) i;
       }
 
 selection-only : (h : Handed) {r : Selected} {marks : List ℕ} {heights : List ℤ} → Turned h (r .refusal) → r .refusal ≡ accepted →

@@ -2,9 +2,9 @@
 -- besides. Definitions only.
 use mathlib.Core.Path.{_≡_}
 use mathlib.Core.Bool.{Bool, true, false, not, _&&_}
-use mathlib.Core.List.{List, List·Memᴰ}
-use mathlib.Core.Logic.{_↔_, _≢_}
-use Prim.Native.Nat.{ℕ, _*_, _≤_, _<_}
+use mathlib.Core.List.{List, [], _∷_, List·Memᴰ}
+use mathlib.Core.Logic.{_⊎_, _↔_, _≢_}
+use Prim.Native.Nat.{ℕ, suc, _*_, _≤_, _<_}
 use lib.ListN.{length}
 use lib.IntN.{ℤ, pos, natAbs, _+ℤ_, _-ℤ_, _*ℤ_}
 use Rattle.grid.specs.Grid.{Inside, largest, samples, isVoid}
@@ -14,7 +14,7 @@ use Rattle.grid.specs.Refusal.{accepted, sizeAbove, wrongLength, voidCorner, to
 use Rattle.grid.specs.declared.points.Point.{Point}
 use Rattle.survey.specs.Filled.{sample, CornersSurveyed}
 use Rattle.survey.specs.Rule.{Fills}
-use Rattle.selection.specs.Marks.{markAt, count, markedOwn, markedDependence}
+use Rattle.selection.specs.Marks.{markAt, markedDependence}
 use Rattle.selection.specs.Selected.{highestTolerance, Handed}
 use Rattle.selection.specs.declared.Selected.{Selected}
 
@@ -55,6 +55,12 @@ pub record Untouched (h : Handed) (r : Selected) (marks′ : List ℕ) (heights�
   pub marks : marks′ ≡ h .marks
   pub heights : heights′ ≡ h .heights
 
+-- so many members of a list are so
+pub data SoMany {A : Type 0} (So : A → Type 0) : List A → ℕ → Type 0 where
+  none : SoMany So [] 0
+  so : {a : A} {l : List A} {n : ℕ} → So a → SoMany So l n → SoMany So (a ∷ l) (suc n)
+  other : {a : A} {l : List A} {n : ℕ} → ¬ (So a) → SoMany So l n → SoMany So (a ∷ l) n
+
 -- what an accepted selection, of size m, of this survey, by this test of what is over tolerance, answered and wrote
 pub record Selection (m : ℕ) (survey : List ℤ) (over : Point → Bool) (r : Selected) (marks : List ℕ) (heights : List ℤ) : Type 1 where
   -- one byte per sample
@@ -70,9 +76,9 @@ pub record Selection (m : ℕ) (survey : List ℤ) (over : Point → Bool) (r : 
   -- the filled heights
   pub fills : Fills m survey heights
   -- the answer counts the points marked 1, those marked 2 or 6, and the voids
-  pub ownCount : r .own ≡ count markedOwn marks
-  pub dependentCount : r .dependent ≡ count markedDependence marks
-  pub voidCount : r .voids ≡ count isVoid survey
+  pub ownCount : SoMany (λ k. k ≡ 1) marks (r .own)
+  pub dependentCount : SoMany (λ k. (k ≡ 2) ⊎ (k ≡ 6)) marks (r .dependent)
+  pub voidCount : SoMany (λ h. isVoid h ≡ true) survey (r .voids)
 
 -- a point is off its ends by more than t, by the heights written alone: its sample is not void, and |2h - (a + b)| exceeds 2t, h the height
 -- at the point, a and b those at its two ends
@@ -96,4 +102,4 @@ pub record Follows (h : Handed) (r : Selected) (marks′ : List ℕ) (heights′
 pub record Told (m : ℕ) (over : Point → Bool) (r : Selected) (marks : List ℕ) : Type 0 where
   pub dependence : (p : Point) → Inside m p →
       markedDependence (markAt m marks p) ≡ (not (isCorner m p) && (not (over p) && keptMark (markAt m marks p)))
-  pub voids : r .voids ≡ count filledMark marks
+  pub voids : SoMany (λ k. 4 ≤ k) marks (r .voids)
