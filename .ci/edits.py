@@ -13,6 +13,8 @@ def edit_faults(text):
         word = next((w for w in ("file: ", "old: ", "new:") if line.startswith(w)), None)
         if word not in due:
             return faults + [f"line {number} is not read, or not where it stands: {line}"]
+        if word == "file: " and not line.startswith(("file: src/", "file: specs/")):
+            faults.append(f"line {number} is of a proof: an edit is of the code or of the rules")
         if word == "old: ":
             old = line.removeprefix(word)
         if word == "new:" and line.removeprefix(word).removeprefix(" ") == old:
@@ -62,7 +64,7 @@ def values_differ(expected, found):
 
 def relation(claim):
     """What a claim says of its two sides."""
-    return "≡" if named(claim) == "Path" else next((r for r in "≡≤<" if f" {r} " in claim), None)
+    return "≡" if named(claim) in ("Path", "_≡_") else next((r for r in "≡≤<" if f" {r} " in claim), None)
 
 
 def failed_fact(error):

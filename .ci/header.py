@@ -78,7 +78,8 @@ def header_faults(header, code):
         wanted = exported(code)
     except (KeyError, ValueError) as what:
         return [f"not understood: {what}"]
-    faults = [f"{l.strip()}: a declaration begins its line" for l in re.findall(r"^[ \t]+\w+ mosskirtle_\w+\(.*$", header, re.M)]
+    faults = [] if 'extern "C" {\n#endif' in header and '\n#ifdef __cplusplus\n}\n#endif' in header else ['C++ is not told that these are calls of C']
+    faults += [f"{l.strip()}: a declaration begins its line" for l in re.findall(r"^[ \t]+\w+ mosskirtle_\w+\(.*$", header, re.M)]
     names = [name for name, _, _ in calls]
     faults += [f"{name} is declared {names.count(name)} times, and exported once" for name in wanted if names.count(name) != 1]
     faults += [f"{name} is declared, and not exported" for name in names if name not in wanted]

@@ -78,6 +78,12 @@ def promise_faults(document, sources):
     return faults
 
 
+def path_faults(document, exists):
+    """A file or folder that a document names is there: `grid/proofs/Rule`, `crates/mesh/specs/Meshed.antt`."""
+    cited = sorted(set(re.findall(r"`(?:crates/)?((?:[a-z_]+)/(?:specs|proofs|src)/[\w+/]+?)(?:\.antt|\.rt)?(?:/\*)?`", document)))
+    return [f"{path} is named, and not there" for path in cited if not exists(path)]
+
+
 def cited_faults(document, edits, words):
     """A name with an underscore is that of an edit, or a word of the code."""
     cited = sorted(set(re.findall(r"`([a-z]+(?:_[a-z0-9]+)+)`", document)))

@@ -17,6 +17,7 @@ pub mod Dependence
 pub mod Cutting
 pub mod Rule
 pub mod Related
+pub mod SizeGiven
 pub mod Turning
 pub mod Numbers
 pub mod Values

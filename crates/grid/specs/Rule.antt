@@ -1,13 +1,14 @@
 -- Document 01's sentences about the spacing, about centre points and about edge points, as records: what the definitions of
--- `Points` are proved to mean, `Related`, at every point of the square that is no grid corner. Definitions only.
+-- `Points` are proved to mean, `Related`, at every point of the square that is no grid corner. And those about places and sizes. Definitions only.
 use mathlib.Core.Path.{_≡_}
 use mathlib.Core.Bool.{Bool, true, false, not}
 use mathlib.Core.List.{List, List·Memᴰ}
 use mathlib.Core.Logic.{_⊎_, _↔_}
-use Prim.Native.Nat.{ℕ, _+_, _*_, _^_, _/_, _%_, _≤_}
-use Rattle.grid.specs.Grid.{Inside, side, at}
+use Prim.Native.Nat.{ℕ, _+_, _*_, _^_, _/_, _%_, _≤_, _<_}
+use Rattle.grid.specs.Grid.{Inside, side, at, place, largest}
 use Rattle.grid.specs.Points.{Pair, pair, both, spacing, ends, dependsOn, dependents}
 use Rattle.grid.specs.declared.points.Point.{Point}
+use Rattle.grid.specs.declared.sizes.SizeAnswer.{SizeAnswer}
 
 -- s is the largest power of two dividing both x and y (zero is divisible by all)
 pub record LargestPower (x y s : ℕ) : Type 0 where
@@ -72,3 +73,13 @@ pub record Related (m : ℕ) (p : Point) : Type 0 where
   pub northSouth : p .x / spacing m p % 2 ≡ 0 → p .y / spacing m p % 2 ≡ 1 → Edge m true (spacing m p) p (ends m p) (dependsOn m p)
   -- its dependents are those that depend on it
   pub dependentOn : (q : Point) → Inside m q → List·Memᴰ p (dependsOn m q) ↔ List·Memᴰ q (dependents m p)
+
+-- point (x, y) is at place y·(N+1)+x
+abbrev pub AtPlace : ℕ → Point → Type 0
+AtPlace m p = place m p ≡ p .y * (2 ^ m + 1) + p .x
+
+-- What is answered for a size. Up to the largest: N = 2^m, (N+1)² samples, at most 2N² triangles. Above it: refusal 1, and every number 0.
+pub data SizeGiven (m : ℕ) (r : SizeAnswer) : Type 0 where
+  held : m ≤ largest → r .refusal ≡ 0 → r .size .side ≡ 2 ^ m → r .size .samples ≡ (2 ^ m + 1) * (2 ^ m + 1) →
+      r .size .triangles ≡ 2 * (2 ^ m * 2 ^ m) → SizeGiven m r
+  above : largest < m → r .refusal ≡ 1 → r .size .side ≡ 0 → r .size .samples ≡ 0 → r .size .triangles ≡ 0 → SizeGiven m r

@@ -1,6 +1,6 @@
 -- The triangles that cutting passes through are those of the hierarchy, so the stages alternate: after an even number of cuts a triangle
 -- is cut at a block centre, after an odd number at an edge midpoint; and l to r is the longest side.
-use mathlib.Core.Path.{_≡_, subst}
+use mathlib.Core.Path.{_≡_, refl, subst}
 use mathlib.Core.Bool.{Bool}
 use Prim.Native.Nat.{ℕ, zero, suc, _+_, _*_}
 use native.Mathlib.Omega.{arith}
@@ -8,8 +8,9 @@ use Rattle.grid.specs.Grid.{midpoint}
 use Rattle.grid.specs.Hierarchy.{Triangle, first as firstOf, second as secondOf, firstHalf as firstHalfOf, secondHalf as secondHalfOf, Stage, Apex}
 use Rattle.grid.specs.declared.points.Point.{Point}
 use Rattle.grid.proofs.Cutting.{cut, stage}
+use Rattle.grid.proofs.Parity.{even-false, odd-true}
 use Rattle.grid.proofs.Turning.{halfway, apex}
-use Rattle.mesh.specs.Rule.{Staged, CutAt, Met, first, second, firstHalf, secondHalf}
+use Rattle.mesh.specs.Rule.{Staged, Writing, CutAt, Met, first, second, firstHalf, secondHalf}
 use Rattle.mesh.proofs.Leads.{no-midpoint, at-halfway, one-midpoint}
 
 -- (l, a, r) is a triangle of the hierarchy, by the cuts that made it
@@ -66,3 +67,11 @@ module _ {m : ℕ} {kept : Point → Bool} where
 
 pub staged : (m : ℕ) (kept : Point → Bool) → Staged m kept
 staged m kept = record { stage = stages; apex = apexes }
+
+-- how each is written
+pub writing : (m : ℕ) → Writing m
+writing m = record {
+  even = λ cuts l a r e. rw (even-false cuts e);
+  odd = λ cuts l a r o. rw (odd-true cuts o);
+  places = λ p q w ts. refl;
+}

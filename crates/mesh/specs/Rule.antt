@@ -1,13 +1,13 @@
 -- Document 01's sentences about triangles, as records. A call meets the promise just where `Follows` holds; of an accepted call `Told`
 -- holds besides; of the triangles that cutting passes through (`Met`), `Staged`. The order of corners is `written`, the
--- places are `placesOf`, a mark that keeps its point is `keptMark`. Definitions only.
+-- places are `placesOf` (both in `Writing`), a mark that keeps its point is `keptMark`. Definitions only.
 use mathlib.Core.Path.{_≡_}
 use mathlib.Core.Bool.{Bool, true}
 use mathlib.Core.List.{List, [], _∷_, _++_, List·Memᴰ}
 use mathlib.Core.Logic.{_↔_, _≢_}
-use Prim.Native.Nat.{ℕ, suc, _+_, _*_, _≤_, _<_}
+use Prim.Native.Nat.{ℕ, suc, _+_, _*_, _%_, _≤_, _<_}
 use lib.ListN.{length, getD, drop}
-use Rattle.grid.specs.Grid.{largest, samples, side, at, point, Inside}
+use Rattle.grid.specs.Grid.{largest, samples, side, at, place, point, Inside}
 use Rattle.grid.specs.Points.{isCorner}
 use Rattle.grid.specs.Mark.{goodMark}
 use Rattle.grid.specs.Sizes.{sizeOf}
@@ -55,6 +55,12 @@ pub data Met (m : ℕ) (kept : Point → Bool) : ℕ → Point → Point → Poi
 pub record Staged (m : ℕ) (kept : Point → Bool) : Type 0 where
   pub stage : {cuts : ℕ} {l a r c : Point} → Met m kept cuts l a r → CutAt m kept l r c → Stage m (suc cuts) c
   pub apex : {cuts : ℕ} {l a r : Point} → Met m kept cuts l a r → Apex cuts l a r
+
+-- how a triangle is written: l, a, r after an even number of cuts; r, a, l after an odd number; three sample places
+pub record Writing (m : ℕ) : Type 0 where
+  pub even : (cuts : ℕ) (l a r : Point) → cuts % 2 ≡ 0 → written cuts l a r ≡ three l a r
+  pub odd : (cuts : ℕ) (l a r : Point) → cuts % 2 ≡ 1 → written cuts l a r ≡ three r a l
+  pub places : (p q w : Point) (ts : List Three) → placesOf m (three p q w ∷ ts) ≡ place m p ∷ place m q ∷ place m w ∷ placesOf m ts
 
 -- the uncut triangles that the square leads to
 pub record Uncut (m : ℕ) (kept : Point → Bool) (ts : List Three) : Type 0 where
