@@ -1,4 +1,6 @@
 // Aim: the height and the ground plane at a point, by the triangle in which a walk down the cuts ends.
+#![tactic(auto)]
+
 mod ground;
 mod quotient;
 pub mod walk;
@@ -15,7 +17,7 @@ use ground::{ground_at, height_in};
 use mesh::good::corners_good;
 use walk::{Reached, Walked, start, walk};
 
-#[derive(Drop)]
+#[derive(Clone, Copy)]
 pub enum HeightAnswer {
     Surveyed(f32),
     Filled(f32),
@@ -24,7 +26,7 @@ pub enum HeightAnswer {
 
 // In units, and units per cell.
 #[repr(C)]
-#[derive(Drop)]
+#[derive(Clone, Copy)]
 pub struct GroundPlane {
     pub height: f32,
     pub east: f32,
@@ -32,7 +34,7 @@ pub struct GroundPlane {
 }
 
 #[repr(C)]
-#[derive(Drop)]
+#[derive(Clone, Copy)]
 pub struct PlaneAnswer {
     pub refusal: u32,
     pub ground: GroundPlane,

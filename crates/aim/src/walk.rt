@@ -9,7 +9,7 @@ use grid::marks::{good, kept};
 use grid::refusals::Refusal;
 
 // The triangle (l, a, r) that a walk has come to: the places of its corners, the point's weights at them, and the cuts left.
-#[derive(Drop)]
+#[derive(Clone, Copy)]
 pub struct Reached {
     pub l: usize,
     pub a: usize,
@@ -21,7 +21,7 @@ pub struct Reached {
 }
 
 // Where the walk ends, or why it was turned down.
-#[derive(Drop)]
+#[derive(Clone, Copy)]
 pub enum Walked {
     Ended(Reached),
     Refused(u32),

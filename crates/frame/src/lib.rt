@@ -1,4 +1,6 @@
 // The input of the program: its form, what it carries, and the heights in it.
+#![tactic(auto)]
+
 ghost use Rattle.std.specs.Prelude.{◌≡◌, ◌+◌, ◌*◌, ◌≤◌, ◌<◌, length};
 ghost use Rattle.frame.specs.Bytes.{byte_values, number_at, signed};
 ghost use Rattle.frame.specs.Frame.{heights_at, height_bytes, field_bytes, refusal, answer_of, height_at, handed, Surveys};
@@ -7,7 +9,7 @@ ghost use Rattle.frame.specs.Inner.{Copied};
 use grid::Grid;
 use grid::refusals::Refusal;
 
-#[derive(Drop)]
+#[derive(Clone, Copy)]
 pub struct Frame {
     pub refusal: u32,
     pub m: u32,

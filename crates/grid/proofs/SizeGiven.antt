@@ -1,13 +1,13 @@
 -- The promise of `size_of` and document 01's sentences about sizes mean each other, for every m; and a point is at its place.
-use mathlib.Core.Path.{◌≡◌, refl, ap, ◌∙◌}
+use mathlib.Core.Path.{◌≡◌, refl}
 use mathlib.Core.Bool.{Bool, true, false}
 use mathlib.Core.Logic.{◌↔◌}
-use Prim.Native.Nat.{ℕ, ◌≤◌, ◌<◌}
+use Prim.Native.Nat.{ℕ}
 use lib.Dec.{leb}
 use borrow.Author.Tests.{leb-true, leb-false, le-leb, lt-leb}
 use Rattle.grid.specs.Grid.{place, largest}
 use Rattle.grid.specs.Rule.{AtPlace, SizeGiven, held, above}
-use Rattle.grid.specs.Sizes.{size_of, no_size, size_answer}
+use Rattle.grid.specs.Sizes.{size_answer}
 use Rattle.grid.specs.declared.points.Point.{Point}
 use Rattle.grid.specs.declared.sizes.SizeAnswer.{SizeAnswer}
 

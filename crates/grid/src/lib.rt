@@ -1,4 +1,6 @@
 // The grid: sizes, places, points and what they lean on. Everything above this crate stands on it.
+#![tactic(auto)]
+
 pub mod marks;
 pub mod points;
 pub mod refusals;
@@ -10,7 +12,7 @@ ghost use Rattle.grid.specs.Grid.{Sound, Inside, largest, place, point, samples,
 use points::Point;
 
 // A grid of size m, with N = 2^m cells a side.
-#[derive(Drop)]
+#[derive(Clone, Copy)]
 pub struct Grid {
     pub m: u32,
     pub side: u32,

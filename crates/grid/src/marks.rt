@@ -3,7 +3,7 @@ ghost use Rattle.std.specs.Prelude.{◌≡◌};
 ghost use Rattle.grid.specs.Mark.{good_mark, kept_mark, filled_mark};
 ghost use Rattle.grid.specs.Inner.{keeps};
 
-#[derive(Drop)]
+#[derive(Clone, Copy)]
 pub struct Mark {
     pub value: u8,
 }

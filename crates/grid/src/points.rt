@@ -7,14 +7,14 @@ ghost use Rattle.grid.specs.Inner.{reach_by};
 use super::Grid;
 
 // x cells east and y cells north of the south-west corner.
-#[derive(Drop)]
+#[derive(Clone, Copy)]
 pub struct Point {
     pub x: u32,
     pub y: u32,
 }
 
 // A point counted in units of its spacing.
-#[derive(Drop)]
+#[derive(Clone, Copy)]
 pub struct Units {
     pub spacing: u32,
     pub across: u32,
@@ -22,7 +22,7 @@ pub struct Units {
 }
 
 // A grid corner, or the line on which the two ends lie: an edge point's along an axis, a centre's along a diagonal.
-#[derive(Drop)]
+#[derive(Clone, Copy)]
 pub enum Kind {
     Corner,
     EastWest,
@@ -31,7 +31,7 @@ pub enum Kind {
     Falling,
 }
 
-#[derive(Drop)]
+#[derive(Clone, Copy)]
 pub struct Site {
     pub kind: Kind,
     pub spacing: u32,

@@ -1,6 +1,6 @@
 // The refusal numbers, each with its one name.
 
-#[derive(Drop)]
+#[derive(Clone, Copy)]
 pub struct Refusal {
     pub number: u32,
 }

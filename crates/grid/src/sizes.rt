@@ -7,14 +7,14 @@ use super::Grid;
 use super::refusals::Refusal;
 
 // N, the samples, and the most triangles.
-#[derive(Drop)]
+#[derive(Clone, Copy)]
 pub struct Size {
     pub side: u32,
     pub samples: u32,
     pub triangles: u32,
 }
 
-#[derive(Drop)]
+#[derive(Clone, Copy)]
 pub struct SizeAnswer {
     pub refusal: u32,
     pub size: Size,

@@ -1,4 +1,6 @@
 // The calls of C, which include/mosskirtle.h declares: each hands over to the call that it is named after, and makes its promise.
+#![tactic(auto)]
+
 ghost use Rattle.selection.specs.Selected.{AnswersSelect, handed as surveying};
 ghost use Rattle.mesh.specs.Meshed.{Meshes, handed as drawing};
 ghost use Rattle.strip.specs.Stripped.{Strips};
@@ -12,7 +14,7 @@ use strip::Stripped;
 
 // A height as it crosses to C. Kind 0 is a refusal, with its number as the bits; 1 a surveyed height and 2 a filled one, with the f32's bits.
 #[repr(C)]
-#[derive(Drop)]
+#[derive(Clone, Copy)]
 pub struct Crossed {
     pub kind: u32,
     pub bits: u32,

@@ -1,4 +1,6 @@
 // The text that is printed of an input: its triangles, or its refusal.
+#![tactic(auto)]
+
 ghost use Rattle.std.specs.Prelude.{◌≡◌, [], ◌∷◌, ◌++◌, suc, ◌+◌, ◌*◌, ◌%◌, ◌≤◌, ◌<◌, length};
 ghost use Rattle.mesh.specs.Meshed.{entries_each};
 ghost use Rattle.listing.specs.Text.{digit, line_feed, decimal_of, line_at, Prints};

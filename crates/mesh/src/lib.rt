@@ -1,4 +1,6 @@
 // Triangles: the marks looked at, the uncut triangles written and counted.
+#![tactic(auto)]
+
 mod closed;
 pub mod cut;
 pub mod good;
@@ -14,7 +16,7 @@ use grid::refusals::Refusal;
 use number::number;
 
 #[repr(C)]
-#[derive(Drop)]
+#[derive(Clone, Copy)]
 pub struct Meshed {
     pub refusal: u32,
     pub triangles: u32,

@@ -1,4 +1,6 @@
 // Reads a frame from standard input and prints its triangles, or its refusal. What it prints is proved in `listing`; here is only input and output.
+#![tactic(auto)]
+
 ghost use Rattle.std.specs.Prelude.{◌≡◌, suc, length};
 ghost use Rattle.io.specs.Counts.{IsPrefixLen};
 ghost use Rattle.frame.specs.Frame.{longest};

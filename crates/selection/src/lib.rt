@@ -1,4 +1,6 @@
 // Selection: the points kept within a tolerance, their marks, and the counts.
+#![tactic(auto)]
+
 mod error;
 mod kept;
 mod marks;
@@ -14,7 +16,7 @@ use grid::refusals::Refusal;
 use marks::{count, mark_all};
 
 #[repr(C)]
-#[derive(Drop)]
+#[derive(Clone, Copy)]
 pub struct Selected {
     pub refusal: u32,
     pub own: u32,

@@ -18,7 +18,7 @@ use grid::points::{Kind, Point, reach_of};
 use grid::refusals::Refusal;
 
 // One spacing of the sweep, and the limit that an own doubled error must exceed.
-#[derive(Drop)]
+#[derive(Clone, Copy)]
 struct Sweep {
     g: Grid,
     spacing: u32,

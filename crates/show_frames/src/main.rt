@@ -1,5 +1,7 @@
 // Prints what read and heights answer of frames in memory, and the refusal of select: the document's own frame, one with heights of both signs, and one for each
 // refusal of the program. The survey holds nines before each call.
+#![tactic(auto)]
+
 ghost use Rattle.std.specs.Prelude.{◌<◌};
 
 use frame::Frame;

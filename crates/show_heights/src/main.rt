@@ -1,5 +1,7 @@
 // Prints what height and plane answer, each float by its bits, for the settled examples 5 to 9, by the marks and heights that selection
 // writes, and for a call of each refusal. The buffers hold nines before selection.
+#![tactic(auto)]
+
 use aim::{GroundPlane, HeightAnswer, PlaneAnswer};
 use grid::Grid;
 use grid::refusals::Refusal;

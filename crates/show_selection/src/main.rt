@@ -1,5 +1,7 @@
 // Prints what selection answers and, as mark/height of each sample, what it writes, for the settled examples 4, 8, 9 and 10 and
 // for a call of each refusal. The buffers hold nines before each call.
+#![tactic(auto)]
+
 ghost use Rattle.std.specs.Prelude.{◌<◌};
 
 use grid::Grid;

@@ -1,5 +1,7 @@
 // Prints what triangles answers and, three places a line, the triangles it writes, for the settled examples 1, 2, 3 and 12 and for a
 // call of each refusal. The room holds no place before each call.
+#![tactic(auto)]
+
 ghost use Rattle.std.specs.Prelude.{◌+◌, ◌*◌, ◌≤◌, length};
 ghost use Rattle.mesh.specs.Meshed.{entries_each};
 

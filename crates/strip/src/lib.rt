@@ -1,4 +1,6 @@
 // One strip for the whole ring of triangles, for a graphics block.
+#![tactic(auto)]
+
 mod ring;
 
 ghost use Rattle.std.specs.Prelude.{◌≡◌, ltb};
@@ -10,7 +12,7 @@ use grid::refusals::Refusal;
 use ring::ring;
 
 #[repr(C)]
-#[derive(Drop)]
+#[derive(Clone, Copy)]
 pub struct Stripped {
     pub refusal: u32,
     pub places: u32,

@@ -9,7 +9,7 @@ use grid::Grid;
 use mesh::cut::is_cut;
 
 // A side of a triangle (l, a, r) by which the strip comes in, at l, or goes out, at r.
-#[derive(Drop)]
+#[derive(Clone, Copy)]
 pub enum Side {
     Nowhere,
     Leg,
@@ -17,7 +17,7 @@ pub enum Side {
 }
 
 // A triangle with so many cuts left, and how the strip passes it.
-#[derive(Drop)]
+#[derive(Clone, Copy)]
 pub struct Passage {
     pub l: usize,
     pub a: usize,
@@ -28,7 +28,7 @@ pub struct Passage {
 }
 
 // Of the running pair, whether the newer place is the corner at which the strip comes in; and the index of the next place.
-#[derive(Drop)]
+#[derive(Clone, Copy)]
 pub struct Running {
     pub near: bool,
     pub at: usize,

@@ -1,4 +1,6 @@
 // The filled height of every sample.
+#![tactic(auto)]
+
 mod spacings;
 
 ghost use Rattle.std.specs.Prelude.{◌≡◌, false, length, ◌/◌};

@@ -11,15 +11,8 @@ use Rattle.grid.specs.Points.{level, spacing, units}
 use Rattle.grid.specs.declared.points.Units.{Units}
 use Rattle.grid.proofs.Level.{level_odd, level_even}
 use Rattle.grid.proofs.Places.{side_small}
-use Rattle.grid.proofs.points.units_of.Statement.{statement}
-use Rattle.grid.proofs.points.units_of.Tie as tie
-
--- x and y are s times a and b; `left` halvings are still allowed
-record Halved (m x y left s a b : ℕ) : Type 0 where
-  east : x ≡ s * a
-  north : y ≡ s * b
-  size : 2 ^ m ≡ s * 2 ^ left
-  found : 2 ^ level m x y ≡ s * 2 ^ level left a b
+use Rattle.grid.proofs.points.units_of.Goals as goal
+use Rattle.grid.proofs.points.units_of.Invariants.{Halved}
 
 half : (s a : ℕ) → a % 2 ≡ 0 → s * a ≡ s * 2 * (a / 2)
 half s a e =
@@ -62,51 +55,24 @@ module _ {m x y : ℕ} where
   bound left s a b l h =
       le_trans (le-mul_of_pos_right s (pow_pos left)) (le_trans (le_of_eq (sym h.size)) (side_small l))
 
-abbrev invariant-loop : tie.invariant-loop
-invariant-loop left₀ s₀ a₀ b₀ left s a b = Halved left₀ a₀ b₀ left s a b
+pub loop-left-init : goal.loop-left-init
+loop-left-init c = start
 
-abbrev decreases-loop : tie.decreases-loop
-decreases-loop left₀ s₀ a₀ b₀ left s a b = left
+pub overflow_mul-s : goal.overflow_mul-s
+overflow_mul-s c =
+    omega (arith, bound _ _ _ _ c.requires.0.small c.loop-left.invariant)
 
-loop-holds : tie.Need-loop-init invariant-loop decreases-loop
-loop-holds c = start
+pub loop-left-preserved : goal.loop-left-preserved
+loop-left-preserved c = step _ _ _ _ (omega arith) (omega arith) (omega arith) c.loop-left.invariant
 
-mul-s : tie.Need-overflow-mul-s invariant-loop decreases-loop
-mul-s c =
-    omega (arith, bound _ _ _ _ c.before.before.before.before.requires.0.small c.before.before.before.loop.invariant)
-
-sub-left : tie.Need-overflow-sub-left invariant-loop decreases-loop
-sub-left c = omega arith
-
-loop-less : tie.Need-loop-smaller invariant-loop decreases-loop
-loop-less c = omega arith
-
-loop-again : tie.Need-loop-preserved invariant-loop decreases-loop
-loop-again c = step _ _ _ _ (omega arith) (omega arith) (omega arith) c.before.before.before.loop.invariant
-
-returns : tie.Need-returns invariant-loop decreases-loop
+pub returns-after-loop-left : goal.returns-after-loop-left
 unfolding level
-returns c =
-    let e : c.before.loop.left ≡ 0 = omega arith in
-    done _ _ _ _ (rw e refl) c.before.loop.invariant
+returns-after-loop-left c =
+    let e : c.loop-left.left ≡ 0 = omega arith in
+    done _ _ _ _ (rw e refl) c.loop-left.invariant
 
-returns-2 : tie.Need-returns-2 invariant-loop decreases-loop
-returns-2 c = done _ _ _ _ (level_odd _ _ _ (inl c.if1.true)) c.before.before.loop.invariant
+pub returns-then-a-eq1 : goal.returns-then-a-eq1
+returns-then-a-eq1 c = done _ _ _ _ (level_odd _ _ _ (inl c.if-a-eq1.true)) c.loop-left.invariant
 
-returns-3 : tie.Need-returns-3 invariant-loop decreases-loop
-returns-3 c = done _ _ _ _ (level_odd _ _ _ (inr c.if2.true)) c.before.before.before.loop.invariant
-
-pub units-of-spec : {M : Type 1} → statement M
-units-of-spec =
-    tie.close
-    (tie.spec
-    invariant-loop
-    decreases-loop
-    loop-holds
-    mul-s
-    sub-left
-    loop-less
-    loop-again
-    returns
-    returns-2
-    returns-3)
+pub returns-then-b-eq1 : goal.returns-then-b-eq1
+returns-then-b-eq1 c = done _ _ _ _ (level_odd _ _ _ (inr c.if-b-eq1.true)) c.loop-left.invariant

@@ -4,16 +4,14 @@ use mathlib.Core.Bool.{Bool, true, false}
 use mathlib.Core.Logic.{◌≢◌}
 use Prim.Native.Nat.{ℕ, ◌/◌, ◌%◌}
 use native.Mathlib.Omega.{arith}
-use borrow.Author.Rules.{rules}
-use Rattle.grid.specs.Points.{units, spacing, is_corner, kind, site}
+use Rattle.grid.specs.Points.{units, is_corner, kind, site}
 use Rattle.grid.specs.declared.points.Point.{Point}
 use Rattle.grid.specs.declared.points.Units.{Units}
 use Rattle.grid.specs.declared.points.Site.{Site}
 use Rattle.grid.specs.declared.points.Kind.{Kind}
 use Rattle.grid.specs.declared.points.Kind.TheVariants.{Corner, EastWest, NorthSouth, Rising, Falling}
 use Rattle.grid.proofs.Parity.{kind_corner, kind_north_south, kind_east_west, kind_rising, kind_falling}
-use Rattle.grid.proofs.points.site_of.Statement.{statement}
-use Rattle.grid.proofs.points.site_of.Tie as tie
+use Rattle.grid.proofs.points.site_of.Goals as goal
 
 -- the site, once its kind is known
 abbrev Sited : ℕ → Point → Units → Kind → Type 0
@@ -52,43 +50,34 @@ module _ (m : ℕ) (p : Point) (u : Units) (e : u ≡ units m p) where
           at-falling : u.across / 2 % 2 ≢ u.up / 2 % 2 → Sited m p u Falling
           at-falling b = made Falling (kind_falling m p inner across up (rw e at b))
 
-units-of-requires : tie.Need-units-of-requires
-units-of-requires c κs = search rules
+pub returns-then-is_corner : goal.returns-then-is_corner
+returns-then-is_corner c = at_corner _ _ _ c.units_of-u.ensures _ c.is_corner.ensures c.if-is_corner.true
 
-is-corner-requires : tie.Need-is-corner-requires
-is-corner-requires c κs = search rules
+pub returns-then-u-eq0 : goal.returns-then-u-eq0
+returns-then-u-eq0 c =
+    at-north-south _ _ _ c.units_of-u.ensures _ c.is_corner.ensures
+    c.if-is_corner.false
+    c.if-u-eq0.true
 
-returns : tie.Need-returns
-returns c = at_corner _ _ _ c.before.before.units_of.ensures _ c.before.is-corner.ensures c.if1.true
+pub returns-then-u-eq0-2 : goal.returns-then-u-eq0-2
+returns-then-u-eq0-2 c =
+    at-east-west _ _ _ c.units_of-u.ensures _ c.is_corner.ensures
+    c.if-is_corner.false
+    c.if-u-eq0.false
+    c.if-u-eq0-2.true
 
-returns-2 : tie.Need-returns-2
-returns-2 c =
-    at-north-south _ _ _ c.before.before.before.before.units_of.ensures _ c.before.before.before.is-corner.ensures
-    c.before.before.if1.false
-    c.if2.true
+pub returns-then-u : goal.returns-then-u
+returns-then-u c =
+    at-rising _ _ _ c.units_of-u.ensures _ c.is_corner.ensures
+    c.if-is_corner.false
+    c.if-u-eq0.false
+    c.if-u-eq0-2.false
+    c.if-u.true
 
-returns-3 : tie.Need-returns-3
-returns-3 c =
-    at-east-west _ _ _ c.before.before.before.before.before.before.units_of.ensures _ c.before.before.before.before.before.is-corner.ensures
-    c.before.before.before.before.if1.false
-    c.before.before.if2.false
-    c.if3.true
-
-returns-4 : tie.Need-returns-4
-returns-4 c =
-    at-rising _ _ _ c.before.before.before.before.before.before.before.before.before.units_of.ensures _ c.before.before.before.before.before.before.before.before.is-corner.ensures
-    c.before.before.before.before.before.before.before.if1.false
-    c.before.before.before.before.before.if2.false
-    c.before.before.before.if3.false
-    c.if4.true
-
-returns-5 : tie.Need-returns-5
-returns-5 c =
-    at-falling _ _ _ c.before.before.before.before.before.before.before.before.before.units_of.ensures _ c.before.before.before.before.before.before.before.before.is-corner.ensures
-    c.before.before.before.before.before.before.before.if1.false
-    c.before.before.before.before.before.if2.false
-    c.before.before.before.if3.false
-    c.if4.false
-
-pub site-of-spec : {M : Type 1} → statement M
-site-of-spec = tie.close (tie.spec units-of-requires is-corner-requires returns returns-2 returns-3 returns-4 returns-5)
+pub returns : goal.returns
+returns c =
+    at-falling _ _ _ c.units_of-u.ensures _ c.is_corner.ensures
+    c.if-is_corner.false
+    c.if-u-eq0.false
+    c.if-u-eq0-2.false
+    c.if-u.false
