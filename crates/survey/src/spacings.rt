@@ -10,7 +10,7 @@ use grid::points::reach_at;
 
 // The height of a void, whose ends lie reach places before and behind it: recurses to an end that is void too. What was found is kept
 // in heights, so that no height is worked out twice.
-#[cycle(fill_end_fill_run_fill_void)]
+#[cycle(filling)]
 fn fill_void(g: Grid, i: usize, reach: usize, heights: &mut [i16])
     requires { Ready g heights.old × VoidAt g.m heights.old i reach }
     ensures { Swept g.m heights.old heights.new (Stands heights.new i) }
@@ -28,7 +28,7 @@ fn fill_void(g: Grid, i: usize, reach: usize, heights: &mut [i16])
 }
 
 // A void end is a run of one place: by way of a run, so that the compiler can put a void's step into the loop.
-#[cycle(fill_end_fill_run_fill_void)]
+#[cycle(filling)]
 fn fill_end(g: Grid, i: usize, heights: &mut [i16])
     requires { Ready g heights.old × (i < samples g.m) × IsVoid heights.old i }
     ensures { Swept g.m heights.old heights.new (Stands heights.new i) }
@@ -37,7 +37,7 @@ fn fill_end(g: Grid, i: usize, heights: &mut [i16])
 }
 
 // The points at the places from, from + step, .. below to.
-#[cycle(fill_end_fill_run_fill_void)]
+#[cycle(filling)]
 fn fill_run(g: Grid, from: usize, to: usize, step: usize, reach: usize, heights: &mut [i16])
     requires { Ready g heights.old × Run g.m from to step reach }
     ensures { Swept g.m heights.old heights.new (RunFilled heights.new from to step) }
