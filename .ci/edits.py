@@ -1,4 +1,5 @@
-"""Must-fail edits: whether `rt` reads every line of one, and whether its log tells of a fact that failed."""
+"""Must-fail edits: whether `rt` reads every line of one, and whether what `rt ci` tells of its refusal is a fact that failed. `rt ci` tells one line an edit: of
+what the check said the first message that names nothing which the edit took away, up to its 160th character. What lies behind that is not judged."""
 import re
 
 
@@ -23,87 +24,99 @@ def edit_faults(text):
     return faults if "old: " in due and "file: " in due else faults + ["it ends before its edit does"]
 
 
-def errors_of(log):
-    """Every error that does not only follow from another, with the lines that belong to it, as one line."""
-    errors, within = [], False
-    for line in log.splitlines():
-        if ": error: " in line:
-            errors.append(line.split(": error: ", 1)[1])
-            within = True
-        elif line.startswith("  ") and within:
-            errors[-1] += line[1:]
-        else:
-            within = False
-    return [e for e in errors if " was not admitted (" not in e]
+def told_of_edits(log):
+    """What `rt ci` told of each edit, by crate and name: all its lines, of which there is to be one."""
+    told = {}
+    for name, said in re.findall(r"^rt: must-fail (\w+/[\w.-]+)\.edit: (.*)$", log, re.M):
+        told.setdefault(name, []).append(said)
+    return told
 
 
-# What says that a proof, or an edit, does not fit the code: a name, a field or a form that is not there.
+# `rt ci` gives so much of a message.
+SHOWN = 160
+
+# What says that a proof, or an edit, does not fit the code: a name, a field or a form that is not there, or a proof that only rests on another.
 SHAPE = re.compile(
-    r"(?:^|^`[^`]*`: )(?:`[^`]*` is not in scope|expected an? |missing field)|that can be named from here|has no field|expected type `tie\.Need-")
+    r"(?:^|^`[^`]*`: )(?:`[^`]*` is not in scope|expected an? |missing field)|that can be named from here|has no field|is no name|"
+    r"was not (?:admitted|checked)|was rejected|were not checked|no clause covers|write the clause")
 
-DIFFER = re.compile(r"the two types (?:differ only|first differ) where one has `([^`]*)`\s*\(expected\)[^`]*(?:`[^`]*`[^`]*)?"
-                    r"and the other has `([^`]*)`\s*\(found\)")
-ARE = re.compile(r"computed as far as they go, the two types are `([^`]*)`\s*\(expected\) and `([^`]*)`\s*\(found\)")
-VALUES = re.compile(r"computed as far as they go, the two values are `[^`]*`\s*\(found\) and `[^`]*`\s*\(required\)")
+DIFFER = re.compile(r"the two types (?:differ only|first differ) where one has `([^`]*)(?:`.*?and the other has `([^`]*))?")
+ARE = re.compile(r"computed as far as they go, the two types are `([^`]*)(`)?(?:\s*\(expected\) and `([^`]*))?")
+HAS = re.compile(r"expected type `([^`]*)(`)?(?:,? but this has type `([^`]*))?")
+VALUES = re.compile(r"computed as far as they go, the two values are `")
 OMEGA = re.compile(r"`omega`: [^`]*(?:`[^`]*`[^`]*)?does not follow from what it read")
-ENDS = re.compile(r"what it leaves must be a path whose two ends are equal, and `.*` is none")
+# `rw` leaves an equation, and its sides differ.
+LEAVES = re.compile(r"give a proof of that as the last argument, `rw L t`")
 HOLDS = re.compile(r"`[^`]*` ≟ `[^`]*`: does not hold")
-HAS = re.compile(r"expected type `([^`]*)`,? but this has type `([^`]*)`")
-BEGINS = re.compile(r"computed as far as it goes, the (expected|found) one begins `([^`]*)`")
+# How those begin: of a message that is cut off sooner no more can be asked.
+BEGIN = [way + types for way in ("as printed, ", "computed as far as they go, ") for types in (
+    "the two types differ only where one has `", "the two types first differ where one has `", "the two types are `", "the two values are `")]
+BEGIN += ["expected type `", "`omega`: the goal does not follow from what it read", "`omega`: the part `", "give a proof of that as the last argument, `rw L t`"]
 
 
 def named(term):
-    """The name that a term begins with, without its module."""
-    return term.lstrip("(").split(" ")[0].rsplit(".", 1)[-1].rstrip(")")
+    """The name that a term begins with, without its module and what is in braces before it."""
+    return re.sub(r"^\{[^}]*\}? ?", "", term).lstrip("(").split(" ")[0].rsplit(".", 1)[-1].rstrip(")")
 
 
-def values_differ(expected, found):
+def values_differ(*terms):
     """Not two types: those have names with a capital letter, and a proof of another claim is no failed fact."""
-    return not any(named(t)[:1].isupper() for t in (expected, found))
+    return not any(named(t)[:1].isupper() for t in terms)
 
 
 def relation(claim):
     """What a claim says of its two sides."""
-    return "≡" if named(claim) in ("Path", "_≡_") else next((r for r in "≡≤<" if f" {r} " in claim), None)
+    return "≡" if named(claim) in ("Path", "◌≡◌") else next((r for r in "≡≢≤<" if f" {r} " in claim), None)
 
 
-def failed_fact(error):
-    """Whether one error says that something is not so: an equation whose sides differ, or a bound that numbers break."""
-    differ = DIFFER.findall(error)
-    if differ and named(differ[-1][1]) != "Learnt":
-        return values_differ(*differ[-1])
-    if any(said.search(error) for said in (VALUES, OMEGA, ENDS, HOLDS)):
+def same_relation(expected, found):
+    """Whether two claims say the same of other sides. A negation may be shown computed, as what leads to ⊥."""
+    said = relation(expected)
+    return said is not None and (said == relation(found) or said == "≢" and found.endswith("→ ⊥"))
+
+
+def failed_fact(error, cut):
+    """Whether an error says that something is not so: an equation whose sides differ, or a bound that numbers break."""
+    if any(said.search(error) for said in (VALUES, OMEGA, LEAVES, HOLDS)):
         return True
+    differ = DIFFER.search(error)
+    if differ:
+        return values_differ(*[t for t in differ.groups() if t])
     both = ARE.search(error) or HAS.search(error)
     if not both:
-        return False
-    # what was learnt from a call is not what is claimed
-    if named(both[2]) == "Learnt":
-        return not both[1].startswith(("lts.", "tie."))
-    claims = {"expected": both[1], "found": both[2], **dict(BEGINS.findall(error))}
-    return relation(claims["expected"]) is not None and relation(claims["expected"]) == relation(claims["found"])
+        return cut and any(begin.startswith(error) for begin in BEGIN) or cut and re.match(r"`[^`]*` ≟ `[^`]*$", error) is not None
+    expected, whole, found = both.groups()
+    if found is None or cut and relation(found) is None:
+        return relation(expected) is not None or cut and not whole and values_differ(expected)
+    return same_relation(expected, found)
 
 
-def refusal_fault(log):
-    """What is wrong with the log of a refused edit, or nothing."""
-    errors = errors_of(log)
-    notes = [l for l in log.splitlines() if l.startswith("note: ") and ": it is not proved that " in l]
-    if not re.search(r"^logic=not-proved", log, re.M):
-        return "it was not refused"
-    misfits = [e for e in errors if SHAPE.search(e)]
-    if misfits:
-        return f"refused for its shape: {misfits[0][:200]}"
-    if errors and not failed_fact(errors[0]):
-        return f"its first error tells of no fact that failed: {errors[0][:200]}"
-    return None if errors or notes else "no error of its own, and nothing that is not proved"
+def refusal_fault(said):
+    """What is wrong with what `rt ci` told of an edit, or nothing."""
+    refused = re.fullmatch(r"refused, as it must be(?: (\(.*?\)))?(?:: (.*))?", said)
+    if not refused:
+        return f"it was not refused: {said[:200]}"
+    if refused[1]:
+        return f"refused {refused[1][:200]}"
+    message = refused[2] or ""
+    if re.match(r"note: \S+:\d+:\d+: it is not proved that ", message):
+        return None
+    error = re.match(r"\S+:\d+:\d+: error: (?:`[^`]*`: )?(.*)", message)
+    if not error:
+        return f"no error, and nothing that is not proved: {message[:200]}"
+    if SHAPE.search(error[1]):
+        return f"refused for its shape: {error[1][:200]}"
+    return None if failed_fact(error[1], len(message) >= SHOWN) else f"its error tells of no fact that failed: {error[1][:200]}"
 
 
-def all_edit_faults(edits, logs):
-    """The text of each edit and the log of each, by crate and name: one log an edit, and no other."""
+def all_edit_faults(edits, log):
+    """The text of each edit, by crate and name, and what `rt ci` printed: one line an edit, and no other."""
     faults = [] if edits else ["no must-fail edit was found"]
-    faults += [f"{name}: a log without its edit" for name in logs if name not in edits]
+    told = told_of_edits(log)
+    faults += [f"{name}: a line without its edit" for name in told if name not in edits]
     for name, text in edits.items():
         faults += [f"{name}: {fault}" for fault in edit_faults(text)]
-        fault = refusal_fault(logs[name]) if name in logs else "no log"
-        faults += [f"{name}: {fault}"] if fault else []
+        said = told.get(name, [])
+        faults += [f"{name}: told {len(said)} times of, and tried once"] if len(said) != 1 else []
+        faults += [f"{name}: {fault}" for fault in map(refusal_fault, said) if fault]
     return faults

@@ -101,16 +101,40 @@ def ours_alone(rows):
     return [[cells(row)[n] for n in kept] for row in rows if not row.startswith("| plain.o")]
 
 
-def figure_faults(document, bench, same_compiler=True):
+def without_ours(rows, same_compiler):
+    """What another kit does not change: what a row is of, what comes out, and C's numbers, if those are of the same compiler."""
+    heads = cells(rows[0])
+    kept = [n for n, head in enumerate(heads) if head in ("", "grid", "m", "call", "triangles", "places") or head == "C" and same_compiler]
+    return [[cells(row)[n] for n in kept] for row in rows]
+
+
+KIT = re.compile(r"^Kit: .*$", re.M)
+
+
+def of_kit(document, kit):
+    """Whether the document's figures are of this kit."""
+    return KIT.findall(document) == [f"Kit: `{kit}`."]
+
+
+def with_kit(document, kit):
+    return KIT.sub(f"Kit: `{kit}`.", document)
+
+
+def figure_faults(document, bench, same_compiler=True, same_kit=True):
     tables = tables_of(bench)
     there = tables_of(document)
-    compared = (lambda rows: rows) if same_compiler else ours_alone
+
+    def compared(rows):
+        return without_ours(rows, same_compiler) if not same_kit else rows if same_compiler else ours_alone(rows)
+
     wanted = {**tables, SHORT: in_short(tables)}
-    faults = [f"it has no table: {title}" for title in wanted if title not in there]
+    faults = [] if len(KIT.findall(document)) == 1 else ["it does not say once of which kit it is"]
+    faults += [f"it has no table: {title}" for title in wanted if title not in there]
     faults += [f"the bench prints no such table: {title}" for title in there if title not in wanted]
     faults += [f"the bench printed other rows: {title}" for title in wanted if title in there and title != SHORT and compared(there[title]) != compared(wanted[title])]
     if same_compiler:
+        faults += limits(tables)
+    if same_compiler and same_kit:
         faults += [f"the bench printed other rows: {SHORT}"] if SHORT in there and there[SHORT] != wanted[SHORT] else []
         faults += [f"it does not say: {text.format(*numbers)}" for text, numbers in sentences(tables) if numbers_in(document, text) != numbers]
-        faults += limits(tables)
     return faults

@@ -19,20 +19,20 @@ def in_c(name, kind):
 
 def fields_of(struct, code):
     """The numbers of a struct in their order, those of a struct within it among them."""
-    bodies = re.findall(rf"#\[repr\(C\)\]\npub struct {struct} \{{(.*?)\}}", code, re.S)
+    bodies = re.findall(rf"#\[repr\(C\)\]\n(?:#\[derive\([\w, ]*\)\]\n)?pub struct {struct} \{{(.*?)\}}", code, re.S)
     if len(bodies) != 1:
         raise ValueError(f"{len(bodies)} structs of C are named {struct}")
     fields = re.findall(r"pub (\w+): (\w+)", bodies[0])
     return [f for name, kind in fields for f in ([(NUMBERS[kind], name)] if kind in NUMBERS else fields_of(kind, code))]
 
 
-def exported(code):
-    """The calls that the code exports: what each takes, and the fields of what it answers."""
+def exported(exports, code):
+    """The calls that a static library exports: what each takes, and the fields of what it answers, a struct of the code."""
     calls = {}
-    for name, taken, answer in re.findall(r'#\[no_mangle\]\npub extern "C" fn (\w+)\((.*?)\) -> (\w+)', code, re.S):
+    for name, taken, answer in re.findall(r'#\[unsafe\(no_mangle\)\]\npub extern "C" fn (\w+)\((.*?)\) -> (\w+)', exports, re.S):
         arguments = [part.strip().split(": ", 1) for part in taken.split(",") if part.strip()]
         calls[name] = ([c for a in arguments for c in in_c(*a)], fields_of(answer, code))
-    if len(calls) != len(re.findall(r"no_mangle", code)):
+    if len(calls) != len(re.findall(r"no_mangle", exports)):
         raise ValueError("not every exported call could be read")
     return calls
 
@@ -72,10 +72,10 @@ def declared(header):
     return calls, structs
 
 
-def header_faults(header, code):
+def header_faults(header, exports, code):
     try:
         calls, structs = declared(header)
-        wanted = exported(code)
+        wanted = exported(exports, code)
     except (KeyError, ValueError) as what:
         return [f"not understood: {what}"]
     faults = [] if 'extern "C" {\n#endif' in header and '\n#ifdef __cplusplus\n}\n#endif' in header else ['C++ is not told that these are calls of C']

@@ -1,6 +1,8 @@
 """docs/PROMISES.md beside the code: every function that another crate can call has an `ensures`, and is named there by its path, once."""
 import re
 
+ENSURES = re.compile(r"\bensures(?: \w+)? \{")
+
 FUNCTION = re.compile(r'^( *)pub (?:[a-z]+ |"C" )*fn (\w+)(.*?)(?:\n\1\{|\{$)', re.M | re.S)
 TYPE = re.compile(r"^impl (\w+) \{$(.*?)^\}$", re.M | re.S)
 
@@ -38,7 +40,7 @@ def says_nothing_of(call, head):
     taken, promised = head.split("ensures", 1)
     faults = []
     for name, kind in re.findall(r"(\w+): (&mut|&)?", taken):
-        says = {"&mut": (f"({name} .entry)", f"({name} .exit)"), "&": (f"({name} .entry)",), "": (name,)}[kind]
+        says = {"&mut": (f"{name}.old", f"{name}.new"), "&": (f"{name}.now",), "": (name,)}[kind]
         faults += [f"{call}: its promise does not speak of {s}" for s in says if not re.search(rf"(?<!\w){re.escape(s)}(?!\w)", promised)]
     return faults
 
@@ -49,11 +51,23 @@ def once_faults(contracts, sources):
     for path, text in sources.items():
         for name, _ in functions_of(path, text):
             crate, *inner = name.split("::")
-            read = re.search(rf"^use Rattle·{crate}\.proofs\.{re.escape('.'.join(inner))}\.Reads as ([\w-]+)$", contracts, re.M)
-            said = read and re.search(rf"^pub {read[1]}-once : .* → {read[1]}\.Learnt k a r o → {read[1]}\.Learnt k a r′ o′ →", contracts, re.M)
+            read = re.search(rf"^use Rattle\.{crate}\.proofs\.{re.escape('.'.join(inner))}\.Reads as ([\w-]+)$", contracts, re.M)
+            said = read and re.search(rf"^pub \w+_once\w* : .* → {read[1]}\.Learnt k a r o → {read[1]}\.Learnt k a r' o' →", contracts, re.M)
             if not said:
                 faults.append(f"{name}: crates/settled/proofs/Contracts.antt does not say that no second answer fits its contract")
     return faults
+
+
+def export_faults(exported, sources):
+    """A static library, whose functions no crate can call: those of the library below it, each with what it takes, its answer and its clauses word for word,
+    the names in them brought in from where that one has them."""
+    ours = {name.split("::")[-1]: head for path, text in exported.items() for name, head in functions_of(path, text)}
+    theirs = {name.split("::")[-1]: head for path, text in sources.items() for name, head in functions_of(path, text)}
+    faults = [f"{name} is exported, and not as the library has it" for name in ours if ours[name] != theirs.get(name)]
+    faults += [f"{name} is not exported" for name in theirs if name not in ours] + ([] if ours else ["nothing is exported"])
+    uses = {use for text in sources.values() for use in re.findall(r"^(?:ghost )?use .*;$", text, re.M)}
+    strange = [u for text in exported.values() for u in re.findall(r"^ghost use .*;$", text, re.M) if u not in uses]
+    return faults + [f"the library has not: {use}" for use in strange]
 
 
 def promise_faults(document, sources):
@@ -68,12 +82,12 @@ def promise_faults(document, sources):
     between = named_in(document.split("## Functions between crates")[1].split("\n## ")[0])
     faults += [f"docs/PROMISES.md names {name}, and it is not there" for name in public + between if name not in found]
     faults += [f"docs/PROMISES.md names {name} {(public + between).count(name)} times" for name in found if (public + between).count(name) != 1]
-    faults += [f"{name}: no `ensures`" for name, head in found.items() if "ensures {" not in head]
+    faults += [f"{name}: no `ensures`" for name, head in found.items() if not ENSURES.search(head)]
     for name in public:
         head = found.get(name, "")
         if "requires" in head:
             faults.append(f"{name}: a public call has no `requires`")
-        elif "ensures {" in head:
+        elif ENSURES.search(head):
             faults += says_nothing_of(name, head)
     return faults
 
@@ -85,6 +99,6 @@ def path_faults(document, exists):
 
 
 def cited_faults(document, edits, words):
-    """A name with an underscore is that of an edit, or a word of the code."""
+    """A name with an underscore is that of an edit, or a word of the code, the rules or the proofs."""
     cited = sorted(set(re.findall(r"`([a-z]+(?:_[a-z0-9]+)+)`", document)))
-    return [f"docs/PROMISES.md names {name}, which is no edit and no word of the code" for name in cited if name not in edits and name not in words]
+    return [f"docs/PROMISES.md names {name}, which is no edit and no word of the crates" for name in cited if name not in edits and name not in words]
