@@ -20,7 +20,7 @@ fn room() -> [u8; Frame::LONGEST + 1]
     [0; Frame::LONGEST + 1]
 }
 
-// Whether a call may move something later that failed: a signal came first, or the descriptor does not wait.
+// Whether a call that failed may move something later: a signal came first, or the descriptor does not wait.
 fn may_try_again(moved: &io::Result<usize>) -> bool {
     let Err(error) = moved else {
         return false;
