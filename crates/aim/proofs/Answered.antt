@@ -12,11 +12,11 @@ use Rattle.aim.specs.Aimed.{nowhere, surveyed, filled, Said, says, height_at, pl
 
 module _ (h : Handed) where
   module _ (ok : refusal h ≡ accepted) where
-    pub height-taken :
+    pub height_taken :
         let t = (ended h).triangle in
         height_at h ≡ says accepted (cond (is_filled h.m h.marks t) filled surveyed) (height_in h.m h.heights t)
     unfolding height_at
-    height-taken = rw ok
+    height_taken = rw ok
 
     pub plane_taken : plane_at h ≡ record { refusal = accepted; ground = ground_in h.m h.heights (ended h) }
     unfolding plane_at
@@ -36,7 +36,7 @@ module _ (h : Handed) where
   height_number = by (ℕ_discrete (refusal h) accepted)
     where
       by : Dec (refusal h ≡ accepted) → (height_at h).refusal ≡ refusal h
-      by (yes ok) = ap (λ (s : Said). s.refusal) (height-taken ok) ∙ sym ok
+      by (yes ok) = ap (λ (s : Said). s.refusal) (height_taken ok) ∙ sym ok
       by (no not-ok) = ap (λ (s : Said). s.refusal) (height_refused not-ok)
 
   pub plane_number : (plane_at h).refusal ≡ refusal h

@@ -77,12 +77,12 @@ module _ (h : Handed) where
         let a = accepted_handed h taken in
         rw ends (stands_placed h.m a.small a.long.marks (ended h) (weighs h a.within))
 
-    pub height-ended :
+    pub height_ended :
         says accepted (cond (filled_in h.marks t) filled surveyed) (quotient format (weighted_in h.heights t) (in_quarters h.m))
         ≡ height_at h
     unfolding height_in
-    height-ended =
-        rw (ends, filled_placed h.m h.marks (ended h), weighted_placed h.m h.heights (ended h)) (sym (answered.height-taken h taken))
+    height_ended =
+        rw (ends, filled_placed h.m h.marks (ended h), weighted_placed h.m h.heights (ended h)) (sym (answered.height_taken h taken))
 
     pub plane_ended : record { refusal = accepted; ground = ground_at h.m h.heights t } ≡ plane_at h
     plane_ended =

@@ -8,7 +8,7 @@ use native.Mathlib.Omega.{arith}
 use lib.Dec.{T, eqb, le→leb, lt→ltb, lit≤}
 use lib.IntN.{ℤ, pos, negsuc, nat_abs}
 use lib.Pow.{pow-add, pow_pos, pow_mono, shl_lt}
-use lib.Ieee.{Float, fin, Format, binary32, binary64, prec, emax, low, hid, top, unlike, up, down, size, round, div, of_int, in_float, fits, is_nan, to_bits, of_bits}
+use lib.Ieee.{Float, fin, nan, inf, Format, binary32, binary64, prec, emax, low, hid, top, unlike, up, down, size, round, div, of_int, in_float, fits, is_nan, to_bits, of_bits}
 use lib.Ieee.Digits.{back}
 use lib.Ieee.Fits.{reach, down_pos, round-fits}
 use lib.Ieee.Bits.{of_bits-to_bits, nan_bits_is}
@@ -38,6 +38,10 @@ same_bits f (fin t m e) (fin u n g) s a c C p q =
     let units : m * up e * l / down e ≡ n * up g * l / down g =
     div_same (m * up e * l) (down e) (n * up g * l) (down g) (down_pos e) (down_pos g) across in
     λ i. cond ((p.0 ∙ sym q.0) i) (top f) 0 + (size (units i) - prec f) * hid f + units i / 2 ^ (size (units i) - prec f)
+same_bits f nan y s a c C p q = elim p [ ]
+same_bits f (inf _) y s a c C p q = elim p [ ]
+same_bits f (fin t m e) nan s a c C p q = elim q [ ]
+same_bits f (fin t m e) (inf _) s a c C p q = elim q [ ]
 
 value_only : (f : Format) (x y : Float) (s : Bool) (a c : ℕ) → 0 < c → T (fits f x) → T (fits f y)
     → HasValue x s a c → HasValue y s a c → x ≡ y
@@ -94,6 +98,8 @@ quotient_value f z d h =
 number_of_lem : (x : Float) (s : Bool) (a c : ℕ) → HasValue x s a c → is_nan x ≡ false
 unfolding is_nan
 number_of_lem (fin t m e) s a c p = refl
+number_of_lem nan s a c p = elim p [ ]
+number_of_lem (inf _) s a c p = elim p [ ]
 
 pub exactly : (f : Format) (z : ℤ) (d : ℕ) → Representable f z d → Exactly f z d (quotient f z d)
 exactly f z d h =
@@ -144,6 +150,10 @@ div_whole f (fin s' m e) (fin t' n g) s t a d D p q =
     ((λ i. round f (unlike (p.0 i) (q.0 i)) (m * up e * down g) (n * up g * down e))
     ∙ round_same f (unlike s t) (m * up e * down g) (n * up g * down e) a d (mul-pos some (down_pos e)) D
     (fraction (m * up e) (n * up g) (down e) (down g) a d p.1 q.1))
+div_whole f nan y s t a d D p q = elim p [ ]
+div_whole f (inf _) y s t a d D p q = elim p [ ]
+div_whole f (fin s' m e) nan s t a d D p q = elim q [ ]
+div_whole f (fin s' m e) (inf _) s t a d D p q = elim q [ ]
 
 pub divided : (f : Format) (z : ℤ) (d : ℕ) → Representable f z d → div f (of_int f z) (of_int f (pos d)) ≡ quotient f z d
 unfolding quotient

@@ -1,16 +1,15 @@
 -- What is known of the triangle in which the walk ends: its plane at the point, whether a corner that weighs in it was filled, and that no
 -- number worked out from it is too large for a float. The weights are the walk's own; the rest is the plane's algebra.
 use mathlib.Core.Path.{◌≡◌, sym, ap, ◌∙◌}
-use mathlib.Core.Bool.{Bool, true, false, not, ◌&&◌, ◌||◌, and-eq-true_iff, true≢false}
+use mathlib.Core.Bool.{Bool, true, not, ◌&&◌, ◌||◌, and-eq-true_iff, true≢false}
 use mathlib.Core.List.{List}
 use mathlib.Core.Logic.{◌⊎◌, inl, inr, ⊎_elim, ◌↔◌}
-use Prim.Native.Nat.{ℕ, ◌+◌, ◌*◌, ◌≤◌}
+use Prim.Native.Nat.{ℕ, ◌*◌, ◌≤◌}
 use native.Mathlib.Omega.{arith}
 use lib.Dec.{eqb}
 use lib.IntN.{ℤ, pos, ◌+ℤ◌, ◌*ℤ◌, +ℤ_comm, +ℤ_assoc}
 use borrow.Author.Tests.{eq-eqb, ne_eqb}
 use Rattle.grid.specs.Mark.{filled_mark}
-use Rattle.grid.specs.Points.{odd}
 use Rattle.grid.specs.declared.points.Point.{Point}
 use Rattle.grid.proofs.Turning.{turns, mirror}
 use Rattle.survey.specs.Filled.{sample}

@@ -28,7 +28,7 @@ use Rattle.aim.specs.Aimed.{weighted, height_in, eastward, northward, ground_in,
 use Rattle.aim.specs.declared.GroundPlane.{GroundPlane}
 use Rattle.aim.proofs.Shares.{by_reading}
 use Rattle.aim.proofs.Weights.{first_of, second_of}
-use Rattle.aim.proofs.Answered.{height-taken, plane_taken, height_refused, plane_refused_lem}
+use Rattle.aim.proofs.Answered.{height_taken, plane_taken, height_refused, plane_refused_lem}
 
 -- the same call with other marks, and with other heights
 abbrev pub remarked : Handed → List ℕ → Handed
@@ -49,7 +49,7 @@ alike g h number origin ground = by (ℕ_discrete (refusal h) accepted)
         let height : height_in g.m g.heights (ended g).triangle ≡ height_in h.m h.heights (ended h).triangle =
         ap (λ (p : GroundPlane). p.height) ground
         in (
-          height-taken g (number ∙ ok) ∙ rw (origin, height) (sym (height-taken h ok)),
+          height_taken g (number ∙ ok) ∙ rw (origin, height) (sym (height_taken h ok)),
           plane_taken g (number ∙ ok) ∙ rw ground (sym (plane_taken h ok)),
         )
     by (no not-ok) =

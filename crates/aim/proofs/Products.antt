@@ -6,7 +6,7 @@ use native.Mathlib.Omega.{arith}
 use lib.IntN.{ℤ, pos, negsuc, nat_abs, ◌+ℤ◌, ◌*ℤ◌}
 use lib.Signed.{mag}
 use mir.Syntax.{w32}
-use mir.Val.{to_z, of_z}
+use mir.Val.{SFits, to_z, of_z}
 use mir.Facts.{to_z-of_z}
 use Rattle.selection.proofs.Exact.{Exact, size_opposite, held, sum}
 
@@ -40,4 +40,4 @@ counted l h = held (record { same = refl; size = l }) h
 
 -- a signed number of 32 bits that is handed on arrives
 pub arrives : (z : ℤ) → mag z < 2147483648 → in32 z ≡ z
-arrives z l = to_z-of_z (record { sfits = l })
+arrives z l = let f : SFits w32 z = record { sfits = l } in to_z-of_z f

@@ -35,7 +35,7 @@ use Rattle.aim.proofs.Planes.{plane_only, moved_east, moved_north}
 use Rattle.aim.proofs.Weights.{Weighs, area_power, contained, barycentric_even, barycentric_odd}
 use Rattle.aim.proofs.Passages.{Lands, same_order}
 use Rattle.aim.proofs.Accepted.{turned, turned_only, end, lands, Accepted, accepted_handed}
-use Rattle.aim.proofs.Answered.{height-taken, height_refused, height_number, plane_taken, plane_refused_lem, plane_number}
+use Rattle.aim.proofs.Answered.{height_taken, height_refused, height_number, plane_taken, plane_refused_lem, plane_number}
 use Rattle.aim.proofs.Bounds.{quarters_power, is_height, Known, AllKnown, whole_largest, height_fits, east_fits, north_fits}
 use Rattle.aim.proofs.Grounds.{weighs, cuts_left, plane, filled_here}
 
@@ -240,14 +240,14 @@ follows_height {h} {r} small = (to, λ f. from f (ℕ_discrete (said r).refusal 
           turned = rw number (turned h);
           answered = λ ok.
               let ok' = sym number ∙ ok in
-              rw (s ∙ height-taken h ok') (answered h (small ok') (accepted_handed h ok'));
+              rw (s ∙ height_taken h ok') (answered h (small ok') (accepted_handed h ok'));
         }
 
     from : FollowsHeight h r → Dec ((said r).refusal ≡ accepted) → said r ≡ height_at h
     from f (yes ok) =
         let ok' = sym (turned_only h f.turned) ∙ ok in
         let k = answered_only h (small ok') (accepted_handed h ok') (f.answered ok) in
-        (λ i. says (ok i) (k.0 i) (k.1 i)) ∙ sym (height-taken h ok')
+        (λ i. says (ok i) (k.0 i) (k.1 i)) ∙ sym (height_taken h ok')
     from f (no n) =
         let given = turned_only h f.turned in
         let k = unsaid r n in

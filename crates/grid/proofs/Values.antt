@@ -71,7 +71,7 @@ abbrev told : ℕ → Point → Told
 told m p = record { spaced = spacing m p; between = ends m p; on = depends_on m p; of = dependents m p }
 
 -- m = 2, every point but the grid corners, as a separate program, written from document 01's words, has them
-pub table-two :
+pub table_two :
     map (told 2) (at 1 0 ∷ at 2 0 ∷ at 3 0 ∷ at 0 1 ∷ at 1 1 ∷ at 2 1 ∷ at 3 1 ∷ at 4 1 ∷ at 0 2 ∷ at 1 2 ∷ at 2 2 ∷ at 3 2 ∷ at 4 2 ∷ at 0 3 ∷ at 1 3 ∷ at 2 3 ∷ at 3 3 ∷ at 4 3 ∷ at 1 4 ∷ at 2 4 ∷ at 3 4 ∷ [])
     ≡ about 1 (at 0 0) (at 2 0) (at 1 1 ∷ []) [] ∷
     about 2 (at 0 0) (at 4 0) (at 2 2 ∷ []) (at 1 1 ∷ at 3 1 ∷ []) ∷
@@ -95,10 +95,10 @@ pub table-two :
     about 2 (at 0 4) (at 4 4) (at 2 2 ∷ []) (at 1 3 ∷ at 3 3 ∷ []) ∷
     about 1 (at 2 4) (at 4 4) (at 3 3 ∷ []) [] ∷ []
 unfolding ends depends_on dependents kind units spacing level is_corner
-table-two = refl
+table_two = refl
 
 -- m = 3, some points of each kind and spacing, by the same program
-pub table-three :
+pub table_three :
     map (told 3) (at 4 0 ∷ at 4 2 ∷ at 6 2 ∷ at 2 4 ∷ at 4 4 ∷ at 5 4 ∷ at 8 4 ∷ at 7 5 ∷ at 2 6 ∷ at 6 6 ∷ at 8 6 ∷ at 1 7 ∷ [])
     ≡ about 4 (at 0 0) (at 8 0) (at 4 4 ∷ []) (at 2 2 ∷ at 6 2 ∷ []) ∷
     about 2 (at 4 0) (at 4 4) (at 2 2 ∷ at 6 2 ∷ []) (at 3 1 ∷ at 5 1 ∷ at 3 3 ∷ at 5 3 ∷ []) ∷
@@ -113,7 +113,7 @@ pub table-three :
     about 2 (at 8 4) (at 8 8) (at 6 6 ∷ []) (at 7 5 ∷ at 7 7 ∷ []) ∷
     about 1 (at 2 6) (at 0 8) (at 0 6 ∷ at 2 8 ∷ []) (at 1 6 ∷ at 0 7 ∷ at 2 7 ∷ at 1 8 ∷ []) ∷ []
 unfolding ends depends_on dependents kind units spacing level is_corner
-table-three = refl
+table_three = refl
 
 pub corners_have_none : map (dependents 2) (at 0 0 ∷ at 4 0 ∷ at 0 4 ∷ at 4 4 ∷ []) ≡ [] ∷ [] ∷ [] ∷ [] ∷ []
 unfolding dependents kind units spacing level is_corner

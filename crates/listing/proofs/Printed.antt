@@ -9,7 +9,7 @@ use lib.ListN.{get_or}
 use borrow.Author.Tests.{ne_eqb}
 use Rattle.grid.specs.Refusal.{accepted}
 use Rattle.mesh.specs.declared.Meshed.{Meshed}
-use Rattle.listing.specs.Text.{digit as code, decimal_of, line_at, lines_of, text_of}
+use Rattle.listing.specs.Text.{digit as code, decimal_of, lines_of, text_of}
 use Rattle.listing.specs.Rule.{Spells, digit, digits, Line, Lines, none, more, Printed, refused, listed}
 use Rattle.listing.proofs.Spelt.{one_digit, more_digits}
 

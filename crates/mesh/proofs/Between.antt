@@ -8,7 +8,7 @@ use Prim.Native.Nat.{ℕ, zero, suc, ◌+◌, ◌-◌, ◌*◌, ◌≤◌, ◌<�
 use native.Mathlib.Nat.{eq-or-lt_of_le}
 use native.Mathlib.Decide.{dec_lt}
 use native.Mathlib.Omega.{arith}
-use Rattle.grid.specs.Grid.{side, samples, at, place, point, entries, Inside}
+use Rattle.grid.specs.Grid.{side, samples, place, point, entries, Inside}
 use Rattle.grid.specs.Points.{is_corner}
 use Rattle.grid.specs.Mark.{good_mark}
 use Rattle.grid.specs.declared.points.Point.{Point}

@@ -25,8 +25,8 @@ module _ {A : Type 0} where
 
   pub in_at : {q : A} (l : List A) (d : A) → Memᴰ q l → (i : ℕ) × (i < length l) × (q ≡ get_or l i d)
   in_at [] d k = absurd (Memᴰ.not-nil k)
-  in_at (a ∷ l) d k =
-      ⊎_elim (λ e. (0, omega arith, e)) (λ r. let w = in_at l d r in (suc w.0, omega (arith, w.1), w.2)) (Memᴰ.cases_cons k)
+  in_at {q} (a ∷ l) d k =
+      ⊎_elim (λ e. (0, omega arith, e)) (λ (r : Memᴰ q l). let w = in_at l d r in (suc w.0, omega (arith, w.1), w.2)) (Memᴰ.cases_cons k)
 
 module _ {A : Type 0} (f : A → Bool) where
   pub every_in : {q : A} (l : List A) → every f l ≡ true → Memᴰ q l → f q ≡ true

@@ -36,6 +36,7 @@ pub each : (p s : Point) (t : Three) → Beside p s t → (q : Point) → Memᴰ
 each p s t h q (Memᴰ.head e) = rw e h.left
 each p s t h q (Memᴰ.tail (Memᴰ.head e)) = rw e h.top
 each p s t h q (Memᴰ.tail (Memᴰ.tail (Memᴰ.head e))) = rw e h.right
+each p s t h q (Memᴰ.tail (Memᴰ.tail (Memᴰ.tail i))) = elim i [ ]
 
 -- a line parts two triangles: from its other end the second is aside
 pub record Sides (t u : Three) : Type 0 where

@@ -6,7 +6,7 @@ use Prim.Native.Nat.{ℕ, zero, suc, ◌+◌, ◌*◌, ◌<◌}
 use native.Mathlib.Nat.{not-suc-le-zero, le_of_suc-le-suc}
 use native.Mathlib.Omega.{arith}
 use lib.ListN.{length, get_or}
-use Rattle.grid.specs.Grid.{samples, at, point}
+use Rattle.grid.specs.Grid.{samples, point}
 use Rattle.grid.proofs.Places.{place_below, point_place}
 use Rattle.mesh.specs.Triangles.{Three, three, places_of}
 use Rattle.mesh.specs.Rule.{Proper, three_at}

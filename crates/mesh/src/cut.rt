@@ -56,7 +56,7 @@ pub(crate) fn at_centre(
 
 // With an even number of cuts left the longest side is a diagonal: cut at a block centre c, into halves cut at edge midpoints, (l, c, a)
 // and (a, c, r): each between a corner and the next. One call for both lets the compiler make one function of the two stages.
-#[cycle(cut_at_centre_cut_at_edge)]
+#[cycle(cutting)]
 fn cut_at_centre(
     marks: &[u8],
     left: u32,
@@ -109,7 +109,7 @@ fn last_cuts(marks: &[u8], l: usize, a: usize, r: usize, at: usize, places: &mut
 }
 
 // With an odd number the longest side lies along an axis: cut at an edge midpoint, likewise, into halves cut at block centres.
-#[cycle(cut_at_centre_cut_at_edge)]
+#[cycle(cutting)]
 fn cut_at_edge(
     marks: &[u8],
     left: u32,

@@ -1,6 +1,6 @@
 -- One spacing of the sweep: where its rows of edge points and of centres begin, what a row adds, and that after the last row the
 -- next rank is reached.
-use Rattle.std.proofs.Common.{◌≡◌, ℕ, suc, ◌+◌, ◌-◌, ◌*◌, ◌%◌, ◌^◌, ◌<◌, ◌≤◌, List, ℤ, sym, refl, ap, ◌∙◌, inl, mul-le-mul_left, mul-zero, mul-one, mul-suc, arith, pow_pos}
+use Rattle.std.proofs.Common.{◌≡◌, ℕ, suc, ◌+◌, ◌*◌, ◌%◌, ◌^◌, ◌<◌, ◌≤◌, List, ℤ, sym, refl, ap, ◌∙◌, inl, mul-le-mul_left, mul-zero, mul-one, mul-suc, arith, pow_pos}
 use native.Mathlib.Decide.{dec_lt}
 use Rattle.grid.specs.Grid.{side, at, Inside}
 use Rattle.grid.specs.declared.Grid.{Grid}

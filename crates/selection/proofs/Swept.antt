@@ -2,8 +2,8 @@
 -- next. In between there is no point of that rank: it would have other parities.
 use Rattle.std.proofs.Common.{◌≡◌, ℕ, suc, ◌+◌, ◌*◌, ◌%◌, ◌^◌, ◌<◌, ◌≤◌, Bool, true, false, ◌⊎◌, sym, refl, ap, ◌∙◌, inl, inr, mul-le-mul_left, arith}
 use native.Mathlib.Decide.{ℕ_discrete, dec_lt}
-use Rattle.grid.specs.Grid.{side, at, Inside}
-use Rattle.grid.specs.Points.{is_corner, level, units, rank, odd}
+use Rattle.grid.specs.Grid.{side, Inside}
+use Rattle.grid.specs.Points.{is_corner, units, rank}
 use Rattle.grid.specs.declared.points.Point.{Point}
 use Rattle.grid.proofs.Units.{Times, Odd, Form, edge, centre, form, rank_edge, rank_centre, corner_rank}
 use Rattle.grid.proofs.Placed.{Placed, placed, measured, inner}

@@ -15,7 +15,7 @@ use Rattle.grid.specs.Grid.{largest, samples}
 use Rattle.grid.specs.Refusal.{accepted, size_above, wrong_length, bad_mark, not_closed, no_room}
 use Rattle.grid.specs.declared.points.Point.{Point}
 use Rattle.selection.specs.Rule.{Closed}
-use Rattle.mesh.specs.Triangles.{Three, mesh, number}
+use Rattle.mesh.specs.Triangles.{mesh, number}
 use Rattle.mesh.specs.Closed.{good_marks, closed}
 use Rattle.mesh.specs.Inner.{Plain, kept_place}
 use Rattle.mesh.specs.Meshed.{Handed, handed, needed, kept_of, written_over}
@@ -24,7 +24,6 @@ use Rattle.mesh.specs.Rule.{Good, Kept, Turned, size, buffer, mark, unclosed, ro
 use Rattle.mesh.proofs.Accepted.{turned, made_only, refuted}
 use Rattle.mesh.proofs.Numbered.{number_triangles}
 use Rattle.mesh.proofs.Closing.{good_marks_lem, plain_marks, closed_set}
-use Rattle.strip.specs.Strip.{placed}
 use Rattle.strip.specs.Inner.{ring_of, laid, outset, Laid, Refused}
 use Rattle.strip.specs.Stripped.{strip, refusal, answer_of, places_after}
 use Rattle.strip.specs.declared.Stripped.{Stripped}

@@ -1,7 +1,7 @@
 -- A place is a corner of a triangle just where the test says so; and a corner is on the way out just where the next triangle has it.
 use mathlib.Core.Path.{◌≡◌}
 use mathlib.Core.Bool.{true, false, or_assoc}
-use mathlib.Core.Logic.{◌⊎◌, ◌↔◌, ⊎_map}
+use mathlib.Core.Logic.{◌↔◌, ⊎_map}
 use Prim.Native.Nat.{ℕ}
 use borrow.Author.Tests.{eq-eqb, eqb-true}
 use lib.Dec.{eqb}

@@ -4,7 +4,7 @@ use mathlib.Core.Path.{◌≡◌, refl, sym, ap, ◌∙◌}
 use mathlib.Core.Bool.{cond, ◌||◌}
 use mathlib.Core.List.{List, [], ◌∷◌}
 use mathlib.Core.Logic.{◌≢◌, inl, inr, ⊎_elim, ◌↔◌}
-use Prim.Native.Nat.{ℕ, suc, ◌*◌, ◌≤◌}
+use Prim.Native.Nat.{ℕ, ◌*◌, ◌≤◌}
 use native.Mathlib.Omega.{arith}
 use borrow.Author.Tests.{ne_eqb}
 use lib.Dec.{eqb}

@@ -1,6 +1,6 @@
 -- Over any closed set, what the passages of the ring lay is the strip of the list, and of that strip K1's sentences hold. From the one starting
 -- triangle to the other the strip crosses the diagonal at (N, N); at (0, 0) it is the side that the last triangle shares with the first.
-use mathlib.Core.Path.{◌≡◌, refl, ap}
+use mathlib.Core.Path.{◌≡◌, refl, sym, ap, subst}
 use mathlib.Core.Bool.{Bool, true}
 use mathlib.Core.List.{List, ◌∷◌, ◌++◌}
 use Prim.Native.Nat.{ℕ, suc, ◌+◌, ◌*◌, ◌≤◌}
@@ -15,7 +15,7 @@ use Rattle.selection.specs.Rule.{Closed}
 use Rattle.mesh.specs.Triangles.{uncut, mesh}
 use Rattle.mesh.specs.Closed.{kept_by}
 use Rattle.mesh.specs.Inner.{kept_place}
-use Rattle.strip.specs.Strip.{Corners, placed, strip_of}
+use Rattle.strip.specs.Strip.{Corners, placed, going_on, strip_of}
 use Rattle.strip.specs.Reading.{read_strip, reading, AllAlike, more as and, Neighbours, nth}
 use Rattle.strip.specs.Rule.{Strip, starts as start, OneStrip}
 use Rattle.strip.specs.Inner.{passages, ring_of, laid, outset}
@@ -23,7 +23,7 @@ use Rattle.strip.specs.declared.ring.Side.TheVariants.{Nowhere, Longest}
 use Rattle.strip.specs.declared.ring.Passage.{Passage}
 use Rattle.strip.proofs.Corner.{on_way, off_way}
 use Rattle.strip.proofs.Turns.{turn, differ, apart}
-use Rattle.strip.proofs.Passing.{nowhere, begins, legs, over, starts, closes, Run, more, follow, cast}
+use Rattle.strip.proofs.Passing.{nowhere, begins, legs, over, starts, closes, Run, one as lone, more, follow, cast}
 use Rattle.strip.proofs.Wedge.{placed_append, wedge}
 use Rattle.strip.proofs.Sharing.{next, turns, corner_first, begun_so, both, not_shared}
 use Rattle.strip.proofs.Joined.{join, head, neighbours, foremost, hindmost}
@@ -40,6 +40,7 @@ record Ringed (ps : List Passage) (ts : List Corners) : Type 0 where
 -- the first triangle is begun so that its way out is its last two places
 ringed : {m : ℕ} {ps : List Passage} {ts : List Corners} → Run m nowhere ps ts nowhere → Ringed ps ts
 unfolding laid strip_of reading
+ringed (lone p) = elim p [ ]
 ringed (more {t = t} {u = u} {ts = ts} {x = x} {y = y} (begins {z = z} b c on) r) =
     let g = (goes r).1 in
     let w = turns b c in
@@ -47,13 +48,15 @@ ringed (more {t = t} {u = u} {ts = ts} {x = x} {y = y} (begins {z = z} b c on) r
     let k = both (head r) in
     let n = not_shared (turn w) (head r) in
     let f = begun_so u b n k.1 k.0 in
+    let is : strip_of (t ∷ u ∷ ts) ≡ z ∷ y ∷ x ∷ going_on y x (u ∷ ts) =
+    ap (λ (b : Corners). b.first ∷ b.second ∷ b.third ∷ going_on b.second b.third (u ∷ ts)) f in
     record {
       lays = rw (on outset, f) (ap (λ (l : List ℕ). z ∷ y ∷ x ∷ l) (g.lays 3));
       rule =
           rw f
           (start (alike b) ((on_way u (corner_first (next b))).0 k.1) ((on_way u (corner_first (next (next b)))).0 k.0) (differ (turn w))
           ((off_way u (corner_first b)).0 n) g.rule);
-      reads = rw (f, a.xy, a.yz, a.zx) (and (alike b) g.reads);
+      reads = subst (λ (l : List ℕ). AllAlike (read_strip l) (t ∷ u ∷ ts)) (sym is) (rw (a.xy, a.yz, a.zx) (and (alike b) g.reads));
       most = most t u ts;
     }
 

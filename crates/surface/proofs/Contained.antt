@@ -8,9 +8,9 @@ use Prim.Native.Nat.{ℕ, zero, suc, ◌+◌, ◌*◌, ◌≤◌, ◌<◌}
 use native.Mathlib.Decide.{dec_le}
 use native.Mathlib.Nat.{le_of_lt}
 use native.Mathlib.Omega.{arith}
-use Rattle.grid.specs.Hierarchy.{first, second, first_half, second_half}
+use Rattle.grid.specs.Hierarchy.{first_half, second_half}
 use Rattle.grid.specs.declared.points.Point.{Point}
-use Rattle.mesh.specs.Triangles.{Three, written, uncut, mesh}
+use Rattle.mesh.specs.Triangles.{Three, written, uncut}
 use Rattle.aim.specs.Walk.{Weighed, Under, under, cut_of, half, walk}
 use Rattle.aim.specs.Geometry.{Contains}
 use Rattle.aim.proofs.Passages.{same_order}

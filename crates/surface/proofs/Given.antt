@@ -19,7 +19,7 @@ use Rattle.aim.specs.Walk.{Weighed}
 use Rattle.aim.specs.Aimed.{Handed, ended, refusal, weighted, eastward, northward, is_filled, height_in, surveyed, filled, said, height_at}
 use Rattle.aim.specs.Rule.{queried, kept_of, Within, FilledCorner}
 use Rattle.aim.specs.declared.HeightAnswer.{HeightAnswer}
-use Rattle.aim.proofs.Answered.{height-taken}
+use Rattle.aim.proofs.Answered.{height_taken}
 use Rattle.aim.proofs.Bounds.{Known, height_fits}
 use Rattle.aim.proofs.Exactness.{exactly}
 use Rattle.aim.proofs.Grounds.{weighs, plane_here, weighing_here}
@@ -84,4 +84,4 @@ module _ (h : Handed) (within : Within h) (ok : refusal h ≡ accepted) (fits : 
         }
 
     pub gives : (a : HeightAnswer) → said a ≡ height_at h → Gives h u (said a).origin (said a).height
-    gives a e = rw (e ∙ height-taken h ok) answered
+    gives a e = rw (e ∙ height_taken h ok) answered

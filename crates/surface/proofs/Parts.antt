@@ -33,7 +33,7 @@ use Rattle.aim.specs.Aimed.{Handed, handed, ended, refusal, Said, said, height_a
 use Rattle.aim.specs.Geometry.{OfSquare, Contains}
 use Rattle.aim.specs.declared.HeightAnswer.{HeightAnswer}
 use Rattle.aim.specs.declared.PlaneAnswer.{PlaneAnswer}
-use Rattle.aim.proofs.Answered.{height-taken, plane_taken}
+use Rattle.aim.proofs.Answered.{height_taken, plane_taken}
 use Rattle.aim.proofs.Grounds.{weighs}
 use Rattle.aim.proofs.Selected.{selected, height_selected, plane_selected}
 use Rattle.aim.proofs.Weights.{contained}
@@ -92,7 +92,7 @@ module _ {s : Surveying} {a : Selected} {marks : List ℕ} {heights : List ℤ} 
     level : (h : HeightAnswer) → said h ≡ height_at asked → (p : PlaneAnswer) → p ≡ plane_at asked → p.ground.height ≡ (said h).height
     unfolding ground_in
     level h e p e' =
-        ap (λ (p : PlaneAnswer). p.ground.height) (e' ∙ plane_taken asked ok) ∙ sym (ap (λ (x : Said). x.height) (e ∙ height-taken asked ok))
+        ap (λ (p : PlaneAnswer). p.ground.height) (e' ∙ plane_taken asked ok) ∙ sym (ap (λ (x : Said). x.height) (e ∙ height_taken asked ok))
 
     -- the triangle in which the walk ends is in the list
     covered : Covered s.m places' r.triangles q

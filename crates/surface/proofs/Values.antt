@@ -5,7 +5,6 @@ use mathlib.Core.Path.{◌≡◌, refl}
 use mathlib.Core.List.{List, [], ◌∷◌, map}
 use Prim.Native.Nat.{ℕ}
 use native.Mathlib.Omega.{arith}
-use lib.ListN.{get_or}
 use lib.IntN.{ℤ, pos, negsuc}
 use Rattle.grid.specs.Grid.{at, place, point}
 use Rattle.grid.specs.Turn.{onward, backward}
