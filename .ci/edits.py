@@ -41,8 +41,8 @@ SHAPE = re.compile(
     r"was not (?:admitted|checked)|was rejected|were not checked|no clause covers|write the clause")
 
 DIFFER = re.compile(r"the two types (?:differ only|first differ) where one has `([^`]*)(?:`.*?and the other has `([^`]*))?")
-ARE = re.compile(r"computed as far as they go, the two types are `([^`]*)(`)?(?:\s*\(expected\) and `([^`]*))?")
-HAS = re.compile(r"expected type `([^`]*)(`)?(?:,? but this has type `([^`]*))?")
+ARE = re.compile(r"computed as far as they go, the two types are `([^`]*)(?:`\s*\(expected\) and `([^`]*))?")
+HAS = re.compile(r"expected type `([^`]*)(?:`,? but this has type `([^`]*))?")
 VALUES = re.compile(r"computed as far as they go, the two values are `")
 OMEGA = re.compile(r"`omega`: [^`]*(?:`[^`]*`[^`]*)?does not follow from what it read")
 # `rw` leaves an equation, and its sides differ.
@@ -52,6 +52,8 @@ HOLDS = re.compile(r"`[^`]*` ≟ `[^`]*`: does not hold")
 BEGIN = [way + types for way in ("as printed, ", "computed as far as they go, ") for types in (
     "the two types differ only where one has `", "the two types first differ where one has `", "the two types are `", "the two values are `")]
 BEGIN += ["expected type `", "`omega`: the goal does not follow from what it read", "`omega`: the part `", "give a proof of that as the last argument, `rw L t`"]
+# Where a proof stands, or what it is given: no claim of the rules.
+PLACE = re.compile(r"\b(?:lts|tie|goal|given|reads|Lts|Tie|Goals|Given|Reads)\.|\b(?:After|At|In)-")
 
 
 def named(term):
@@ -59,9 +61,9 @@ def named(term):
     return re.sub(r"^\{[^}]*\}? ?", "", term).lstrip("(").split(" ")[0].rsplit(".", 1)[-1].rstrip(")")
 
 
-def values_differ(*terms):
-    """Not two types: those have names with a capital letter, and a proof of another claim is no failed fact."""
-    return not any(named(t)[:1].isupper() for t in terms)
+def is_value(term, cut):
+    """Not a type: those have names with a capital letter. Of a name that is cut off it is not known."""
+    return not PLACE.search(term) and (not named(term)[:1].isupper() or cut and " " not in term)
 
 
 def relation(claim):
@@ -69,26 +71,32 @@ def relation(claim):
     return "≡" if named(claim) in ("Path", "◌≡◌") else next((r for r in "≡≢≤<" if f" {r} " in claim), None)
 
 
-def same_relation(expected, found):
-    """Whether two claims say the same of other sides. A negation may be shown computed, as what leads to ⊥."""
+def same_claim(expected, found):
+    """Whether two claims say the same of other values. A negation may be shown computed, as what leads to ⊥."""
     said = relation(expected)
-    return said is not None and (said == relation(found) or said == "≢" and found.endswith("→ ⊥"))
+    if said is None:
+        return named(expected)[:1].isupper() and named(expected) == named(found) and expected != found
+    return said == relation(found) or said == "≢" and found.endswith("→ ⊥")
 
 
 def failed_fact(error, cut):
     """Whether an error says that something is not so: an equation whose sides differ, or a bound that numbers break."""
     if any(said.search(error) for said in (VALUES, OMEGA, LEAVES, HOLDS)):
         return True
+    # the term in which the message ends
+    last = error.rsplit("`", 1)[-1] if cut and error.count("`") % 2 else None
     differ = DIFFER.search(error)
     if differ:
-        return values_differ(*[t for t in differ.groups() if t])
+        return all(is_value(term, term == last) for term in differ.groups() if term)
     both = ARE.search(error) or HAS.search(error)
     if not both:
-        return cut and any(begin.startswith(error) for begin in BEGIN) or cut and re.match(r"`[^`]*` ≟ `[^`]*$", error) is not None
-    expected, whole, found = both.groups()
-    if found is None or cut and relation(found) is None:
-        return relation(expected) is not None or cut and not whole and values_differ(expected)
-    return same_relation(expected, found)
+        return cut and (any(begin.startswith(error) for begin in BEGIN) or re.match(r"`[^`]*` ≟ `[^`]*$", error) is not None)
+    expected, found = both.groups()
+    if PLACE.search(expected) or PLACE.search(found or ""):
+        return False
+    if found is None or found == last and relation(found) is None:
+        return relation(expected) is not None or named(expected)[:1].isupper() or expected == last
+    return same_claim(expected, found)
 
 
 def refusal_fault(said):
