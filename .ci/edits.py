@@ -48,10 +48,12 @@ OMEGA = re.compile(r"`omega`: [^`]*(?:`[^`]*`[^`]*)?does not follow from what it
 # `rw` leaves an equation, and its sides differ.
 LEAVES = re.compile(r"give a proof of that as the last argument, `rw L t`")
 HOLDS = re.compile(r"`[^`]*` ≟ `[^`]*`: does not hold")
+# An equation does not begin, or end, where it says.
+FACE = re.compile(r"on the face `[^`]*` this λ's body is `")
 # How those begin: of a message that is cut off sooner no more can be asked.
 BEGIN = [way + types for way in ("as printed, ", "computed as far as they go, ") for types in (
     "the two types differ only where one has `", "the two types first differ where one has `", "the two types are `", "the two values are `")]
-BEGIN += ["expected type `", "`omega`: the goal does not follow from what it read", "`omega`: the part `", "give a proof of that as the last argument, `rw L t`"]
+BEGIN += ["expected type `", "`omega`: the goal does not follow from what it read", "`omega`: the part `", "give a proof of that as the last argument, `rw L t`", "on the face `"]
 # Where a proof stands, or what it is given: no claim of the rules.
 PLACE = re.compile(r"\b(?:lts|tie|goal|given|reads|Lts|Tie|Goals|Given|Reads)\.|\b(?:After|At|In)-")
 
@@ -81,7 +83,7 @@ def same_claim(expected, found):
 
 def failed_fact(error, cut):
     """Whether an error says that something is not so: an equation whose sides differ, or a bound that numbers break."""
-    if any(said.search(error) for said in (VALUES, OMEGA, LEAVES, HOLDS)):
+    if any(said.search(error) for said in (VALUES, OMEGA, LEAVES, HOLDS, FACE)):
         return True
     # the term in which the message ends
     last = error.rsplit("`", 1)[-1] if cut and error.count("`") % 2 else None
