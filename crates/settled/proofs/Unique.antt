@@ -1,6 +1,6 @@
 -- No second answer fits a promise: each is made of equations, so two outcomes are equal to the same third. The promise of height is an equation
 -- of what the answer says, and no two answers say the same.
-use mathlib.Core.Path.{◌≡◌, sym, ◌∙◌}
+use mathlib.Core.Path.{sym, ◌∙◌}
 use Rattle.aim.proofs.Rule.{said_only}
 use Rattle.settled.specs.Unique.{NoSecond}
 
