@@ -145,10 +145,13 @@ ground_in m heights u = record {
 abbrev pub no_ground : GroundPlane
 no_ground = record { height = plus_zero; east = plus_zero; north = plus_zero }
 
+-- an answer of plane: its number, and its floats
+abbrev pub plane_answer : ℕ → (ground : GroundPlane) → PlaneAnswer
+plane_answer number p = record { refusal = number; ground = p }
+
 -- what plane answers
 unfoldable pub plane_at : Handed → PlaneAnswer
-plane_at h =
-    record { refusal = refusal h; ground = cond (eqb (refusal h) accepted) (ground_in h.m h.heights (ended h)) no_ground }
+plane_at h = plane_answer (refusal h) (cond (eqb (refusal h) accepted) (ground_in h.m h.heights (ended h)) no_ground)
 
 -- The heights at the corners of the final triangle, from which all is worked out, are signed numbers of 16 bits, as those of a lent `&[i16]` are.
 -- (Lists of the definitions may hold any whole numbers, and of a height of 2^40 + 1 no float is exact.)

@@ -18,7 +18,7 @@ use Rattle.mesh.specs.declared.Meshed.{Meshed}
 use Rattle.strip.specs.Stripped.{Strips}
 use Rattle.strip.specs.declared.Stripped.{Stripped}
 use Rattle.aim.specs.Quotient.{format, Exactly}
-use Rattle.aim.specs.Aimed.{Handed as Asking, handed as asking, said, height_at, no_ground, plane_at}
+use Rattle.aim.specs.Aimed.{Handed as Asking, handed as asking, said, height_at, no_ground, plane_at, plane_answer}
 use Rattle.aim.specs.declared.HeightAnswer.TheVariants.{Surveyed, Filled, Refused}
 use Rattle.aim.specs.declared.HeightAnswer.{HeightAnswer}
 use Rattle.aim.specs.declared.PlaneAnswer.{PlaneAnswer}
@@ -114,7 +114,7 @@ pub record PlaneIs (h : Asking) (z : ℤ) (word : ℕ) (e : ℤ) (eastWord : ℕ
 
 -- plane is refused: three floats of plus zero
 abbrev pub plane_refused : ℕ → PlaneAnswer
-plane_refused number = record { refusal = number; ground = no_ground }
+plane_refused number = plane_answer number no_ground
 
 -- the points of a list of which f holds
 abbrev pub those : (Point → Bool) → List Point → List Point
