@@ -22,14 +22,14 @@ module _ (h : Handed) where
     unfolding plane_at
     plane_taken = rw ok
 
-  module _ (not-ok : refusal h ≢ accepted) where
+  module _ (not_ok : refusal h ≢ accepted) where
     pub height_refused : height_at h ≡ says (refusal h) nowhere plus_zero
     unfolding height_at
-    height_refused = rw (ne_eqb (refusal h) accepted not-ok)
+    height_refused = rw (ne_eqb (refusal h) accepted not_ok)
 
     pub plane_refused_lem : plane_at h ≡ record { refusal = refusal h; ground = no_ground }
     unfolding plane_at
-    plane_refused_lem = rw (ne_eqb (refusal h) accepted not-ok)
+    plane_refused_lem = rw (ne_eqb (refusal h) accepted not_ok)
 
   -- either carries the refusal's number
   pub height_number : (height_at h).refusal ≡ refusal h
@@ -37,7 +37,7 @@ module _ (h : Handed) where
     where
       by : Dec (refusal h ≡ accepted) → (height_at h).refusal ≡ refusal h
       by (yes ok) = ap (λ (s : Said). s.refusal) (height_taken ok) ∙ sym ok
-      by (no not-ok) = ap (λ (s : Said). s.refusal) (height_refused not-ok)
+      by (no not_ok) = ap (λ (s : Said). s.refusal) (height_refused not_ok)
 
   pub plane_number : (plane_at h).refusal ≡ refusal h
   unfolding plane_at

@@ -42,7 +42,7 @@ module _ (h : Handed) where
 
   found_refused : refusal h ≢ accepted → found h ≡ Refused (refusal h)
   unfolding found
-  found_refused not-ok = rw (ne_eqb (refusal h) accepted not-ok)
+  found_refused not_ok = rw (ne_eqb (refusal h) accepted not_ok)
 
   -- a triangle was found
   module _ {t : Reached} (is : Ended t ≡ found h) where
@@ -51,7 +51,7 @@ module _ (h : Handed) where
       where
         by : Dec (refusal h ≡ accepted) → refusal h ≡ accepted
         by (yes ok) = ok
-        by (no not-ok) = absurd (true≢false (ap is_ended (is ∙ found_refused not-ok)))
+        by (no not_ok) = absurd (true≢false (ap is_ended (is ∙ found_refused not_ok)))
 
     ends : t ≡ to h
     ends = ap (triangle_of t) (is ∙ found_taken taken)

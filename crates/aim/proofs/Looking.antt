@@ -52,10 +52,10 @@ alike g h number origin ground = by (ℕ_discrete (refusal h) accepted)
           height_taken g (number ∙ ok) ∙ rw (origin, height) (sym (height_taken h ok)),
           plane_taken g (number ∙ ok) ∙ rw ground (sym (plane_taken h ok)),
         )
-    by (no not-ok) =
-        let turned : refusal g ≢ accepted = λ e. not-ok (sym number ∙ e) in (
-          height_refused g turned ∙ rw number (sym (height_refused h not-ok)),
-          plane_refused_lem g turned ∙ rw number (sym (plane_refused_lem h not-ok)),
+    by (no not_ok) =
+        let turned : refusal g ≢ accepted = λ e. not_ok (sym number ∙ e) in (
+          height_refused g turned ∙ rw number (sym (height_refused h not_ok)),
+          plane_refused_lem g turned ∙ rw number (sym (plane_refused_lem h not_ok)),
         )
 
 -- the walk by another set that agrees at the midpoints met is the same, and meets the same

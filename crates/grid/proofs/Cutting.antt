@@ -57,8 +57,8 @@ ends_halfway m p h =
 
 opposite_end : {p q r e f : Point} → Halfway p q r → Halfway p e f → q ≡ e → f ≡ r
 opposite_end w v s =
-    let x-path = ap (λ (c : Point). c.x) s in
-    let y-path = ap (λ (c : Point). c.y) s in
+    let x_path = ap (λ (c : Point). c.x) s in
+    let y_path = ap (λ (c : Point). c.y) s in
     same_point (omega arith) (omega arith)
 
 -- so, of two points that it lies halfway between, both are its ends where one is

@@ -65,10 +65,10 @@ near_span n s c pos l =
     (chosen (leb (c + s) n) (omega arith) (λ e. omega (arith, leb-true (c + s) n e)))
 
 -- at most two numbers are near, so one point for each is at most two
-near_count : (laid-at : ℕ → Point) (n s c : ℕ) → length (each (λ a. laid-at a ∷ []) (near n s c)) ≤ 2
-near_count laid-at n s c = go (leb s c) (leb (c + s) n)
+near_count : (laid_at : ℕ → Point) (n s c : ℕ) → length (each (λ a. laid_at a ∷ []) (near n s c)) ≤ 2
+near_count laid_at n s c = go (leb s c) (leb (c + s) n)
   where
-    go : (t u : Bool) → length (each (λ a. laid-at a ∷ []) (cond t ((c - s) ∷ []) [] ++ cond u ((c + s) ∷ []) [])) ≤ 2
+    go : (t u : Bool) → length (each (λ a. laid_at a ∷ []) (cond t ((c - s) ∷ []) [] ++ cond u ((c + s) ∷ []) [])) ≤ 2
     go true true = omega arith
     go true false = omega arith
     go false true = omega arith
@@ -93,8 +93,8 @@ module _ (m : ℕ) where
   -- lists that rise, one from each lo c to the next, rise for numbers that rise
   each_span : {i j : ℕ} {cs : List ℕ} (lo : ℕ → ℕ) (f : ℕ → List Point) → ((a c : ℕ) → a ≤ c → lo a ≤ lo c) →
       ((c : ℕ) → Span (place m) (lo c) (f c) (lo (suc c))) → Span (λ k. k) i cs j → Span (place m) (lo i) (each f cs) (lo j)
-  each_span lo f up each-c (none g) = none (up _ _ g)
-  each_span lo f up each-c (next g t) = span_join (span_from (up _ _ g) (each-c _)) (each_span lo f up each-c t)
+  each_span lo f up each_c (none g) = none (up _ _ g)
+  each_span lo f up each_c (next g t) = span_join (span_from (up _ _ g) (each_c _)) (each_span lo f up each_c t)
 
   module _ (s : ℕ) (pos : 0 < s) where
     row_span : (b x : ℕ) → x ≤ side m → Span (place m) (b * (side m + 1)) (in_line false b (near (side m) s x)) (suc b * (side m + 1))
@@ -107,8 +107,8 @@ module _ (m : ℕ) where
 
     rows_rising : (f : ℕ → List Point) → ((b : ℕ) → Span (place m) (b * (side m + 1)) (f b) (suc b * (side m + 1))) →
         (y : ℕ) → y ≤ side m → InOrder m (each f (near (side m) s y))
-    rows_rising f each-b y l =
-        span_rising (each_span (λ b. b * (side m + 1)) f (λ a c h. mul-le-mul_right (side m + 1) h) each-b (near_span (side m) s y pos l))
+    rows_rising f each_b y l =
+        span_rising (each_span (λ b. b * (side m + 1)) f (λ a c h. mul-le-mul_right (side m + 1) h) each_b (near_span (side m) s y pos l))
 
     line_rising : (turned : Bool) (b c : ℕ) → b ≤ side m → c ≤ side m → InOrder m (in_line turned b (near (side m) s c))
     unfolding place

@@ -105,10 +105,10 @@ view m p h inner =
   where
     go : (j a b : ℕ) → p.x ≡ 2 ^ j * a → p.y ≡ 2 ^ j * b → j < m → Dec (a % 2 ≡ 1) → Dec (b % 2 ≡ 1) →
         (Divides (2 ^ suc j) p.x p.y → suc j ≤ j) → (a % 2 ≡ 1) ⊎ (b % 2 ≡ 1)
-    go j a b ex ey l (yes o) d no-larger = inl o
-    go j a b ex ey l (no e) (yes o) no-larger = inr o
-    go j a b ex ey l (no e) (no f) no-larger =
-        let c : suc j ≤ j = no-larger (record { east = twice_units j p.x a ex (omega arith); north = twice_units j p.y b ey (omega arith) }) in
+    go j a b ex ey l (yes o) d no_larger = inl o
+    go j a b ex ey l (no e) (yes o) no_larger = inr o
+    go j a b ex ey l (no e) (no f) no_larger =
+        let c : suc j ≤ j = no_larger (record { east = twice_units j p.x a ex (omega arith); north = twice_units j p.y b ey (omega arith) }) in
         absurd (lt_irrefl j c)
 
 -- a coordinate at an end is 0 or N

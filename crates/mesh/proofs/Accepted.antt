@@ -26,7 +26,7 @@ pub refutes : {t : Bool} {P : Type 0} → (t ≡ true) ↔ P → t ≡ false →
 refutes says none p = true≢false (sym (says.1 p) ∙ none)
 
 pub refuted : {t : Bool} {P : Type 0} → (t ≡ true) ↔ P → ¬ P → t ≡ false
-refuted says not-p = false_by _ (λ e. not-p (says.0 e))
+refuted says not_p = false_by _ (λ e. not_p (says.0 e))
 
 module _ (h : Handed) where
   -- what each test says

@@ -147,14 +147,14 @@ module _ {m s : ℕ} (w : Power m s) where
       across_looked k l way e f h =
           let p = at (s * a) (s * b) in
           let q = ends_by l s (s * a) (s * b) in
-          let on-two = depends_way way (record { east = la; north = lb }) ∙ e in
+          let on_two = depends_way way (record { east = la; north = lb }) ∙ e in
           let first : place m q.first ≡ place m p - d = omega (arith, f.before) in
           let two : every (kept_by m marks) (both q) ≡ (kept_place marks (place m p - d) && kept_place marks (place m p + d)) =
           rw (← first, f.behind, and-true (kept_by m marks q.second)) in
           record {
             back = omega (arith, f.before);
             on = rw f.behind (place_below m q.second h);
-            is = if_kept (kept_place marks (place m p)) (λ kept. ap (every (kept_by m marks)) on-two ∙ two);
+            is = if_kept (kept_place marks (place m p)) (λ kept. ap (every (kept_by m marks)) on_two ∙ two);
           }
 
       pub centre_looked : Across (side m) s (a + b) d → Looked m marks (at (s * a) (s * b)) d d

@@ -61,7 +61,7 @@ module _ (k : _) (a : _) (s : Selected) (o : _) (selects : select.Learnt k a s o
         (answers : height.Learnt k₂ a₂ h o₂)
         (asked : asking a₂.0.now a₂.1.0.now a₂.1.1.0 a₂.1.1.1.0 a₂.1.1.1.1.0 ≡ asking marks heights m x y)
         (k₃ : _) (a₃ : _) (p : PlaneAnswer) (o₃ : _) (grounds : plane.Learnt k₃ a₃ p o₃)
-        (asked-plane : asking a₃.0.now a₃.1.0.now a₃.1.1.0 a₃.1.1.1.0 a₃.1.1.1.1.0 ≡ asking marks heights m x y) where
+        (asked_plane : asking a₃.0.now a₃.1.0.now a₃.1.1.0 a₃.1.1.1.0 a₃.1.1.1.1.0 ≡ asking marks heights m x y) where
       here : SurfaceAt (asking marks heights m x y) places r.triangles
       here = surface.everywhere x y east north
 
@@ -69,7 +69,7 @@ module _ (k : _) (a : _) (s : Selected) (o : _) (selects : select.Learnt k a s o
       said_here = rw asked at answers
 
       plane_here : AnswersPlane (asking marks heights m x y) p
-      plane_here = rw asked-plane at grounds
+      plane_here = rw asked_plane at grounds
 
       pub four_calls : FourCalls m marks heights r places x y h p
       four_calls =

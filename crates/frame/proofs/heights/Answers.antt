@@ -26,8 +26,8 @@ module _ (h : Handed) (r : Frame) (e : r ≡ answer_of h.input) where
   number : r.refusal ≡ refusal h.input
   number = ap (λ (a : Frame). a.refusal) e ∙ answer_refusal h.input
 
-  input-refused : r.refusal ≢ accepted → Surveys h r.refusal h.survey
-  input-refused n =
+  input_refused : r.refusal ≢ accepted → Surveys h r.refusal h.survey
+  input_refused n =
       meets (record { turned = frame (rw number (turned h.input)) n; refused = λ _. refl; surveyed = λ k. absurd (n k) })
 
   -- and a what it was told of the size
@@ -41,8 +41,8 @@ module _ (h : Handed) (r : Frame) (e : r ≡ answer_of h.input) where
     many : a.size.samples ≡ samples (size_in h.input)
     many = (within r.m a s (omega (arith, size, (accepted_input h.input ok).small))).1 ∙ ap samples size
 
-    buffer-refused : length h.survey ≢ a.size.samples → Surveys h wrong_length h.survey
-    buffer-refused n =
+    buffer_refused : length h.survey ≢ a.size.samples → Surveys h wrong_length h.survey
+    buffer_refused n =
         meets
         (record {
           turned = buffer (rw ok at (turned h.input)) (λ l. n (l ∙ sym many));
@@ -65,12 +65,12 @@ module _ (h : Handed) (r : Frame) (e : r ≡ answer_of h.input) where
 pub returns-then-frame-ne-ACCEPTED : goal.returns-then-frame-ne-ACCEPTED
 returns-then-frame-ne-ACCEPTED c =
     let h = handed c.args.input.now c.args.survey.now in
-    input-refused h _ c.read-frame.ensures c.if-frame-ne-ACCEPTED.true
+    input_refused h _ c.read-frame.ensures c.if-frame-ne-ACCEPTED.true
 
 pub returns-then-survey-size : goal.returns-then-survey-size
 returns-then-survey-size c =
     let h = handed c.args.input.now c.args.survey.now in
-    buffer-refused h _ c.read-frame.ensures c.if-frame-ne-ACCEPTED.false _ c.size_of.ensures
+    buffer_refused h _ c.read-frame.ensures c.if-frame-ne-ACCEPTED.false _ c.size_of.ensures
     (λ e. omega (arith, c.if-survey-size.true, e))
 
 pub copy-requires : goal.copy-requires

@@ -33,13 +33,13 @@ module _ (input : List ℕ) (o : Opens input) (m : ℕ) (e : m ≡ size_in input
     totalled : length input ≡ heights_at + height_bytes * a.size.samples → Total input
     totalled t = rw many at t
 
-    wrong-total : length input ≢ heights_at + height_bytes * a.size.samples → input_form ≡ refusal input
-    wrong-total n = turned_only input (total o small (λ t. n (rw many t)))
+    wrong_total : length input ≢ heights_at + height_bytes * a.size.samples → input_form ≡ refusal input
+    wrong_total n = turned_only input (total o small (λ t. n (rw many t)))
 
     -- n is what the code was told of the length field
     module _ (t : length input ≡ heights_at + height_bytes * a.size.samples) (n : ℕ) (f : n ≡ number_at input length_at field_bytes) where
-      wrong-field : n ≢ following + height_bytes * a.size.samples → input_form ≡ refusal input
-      wrong-field d = turned_only input (field o small (totalled t) (λ k. d (rw many (f ∙ four_is input length_at ∙ sym k))))
+      wrong_field : n ≢ following + height_bytes * a.size.samples → input_form ≡ refusal input
+      wrong_field d = turned_only input (field o small (totalled t) (λ k. d (rw many (f ∙ four_is input length_at ∙ sym k))))
 
       right : n ≡ following + height_bytes * a.size.samples → accepted ≡ refusal input
       right g = turned_only input (nothing o small (totalled t) (sym (rw many at g) ∙ f ∙ four_is input length_at))
@@ -62,7 +62,7 @@ returns-then-m-gt-LARGEST c =
 pub returns-then-input-heights : goal.returns-then-input-heights
 returns-then-input-heights c =
     let o = opens c.args.input.now c.if-input-lt-FEWEST.false c.if-input-ne-VERSION.false in
-    wrong-total c.args.input.now o _ c.wide-m.ensures c.if-m-gt-LARGEST.false _ c.size_of.ensures
+    wrong_total c.args.input.now o _ c.wide-m.ensures c.if-m-gt-LARGEST.false _ c.size_of.ensures
     (λ e. omega (arith, c.if-input-heights.true, e))
 
 pub returns-then-four_at-heights : goal.returns-then-four_at-heights
@@ -77,7 +77,7 @@ returns-then-four_at-heights c =
 pub returns : goal.returns
 returns c =
     let o = opens c.args.input.now c.if-input-lt-FEWEST.false c.if-input-ne-VERSION.false in
-    wrong-field c.args.input.now o _ c.wide-m.ensures c.if-m-gt-LARGEST.false _ c.size_of.ensures
+    wrong_field c.args.input.now o _ c.wide-m.ensures c.if-m-gt-LARGEST.false _ c.size_of.ensures
     (omega (arith, c.if-input-heights.false))
     _
     c.four_at.ensures

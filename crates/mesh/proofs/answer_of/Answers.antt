@@ -24,96 +24,96 @@ use Rattle.mesh.proofs.Answered.{answering, answer_turned}
 use Rattle.mesh.proofs.answer_of.Goals as goal
 
 -- a size that is none
-size-refused : (h : Handed) (a : SizeAnswer) → a ≡ size_answer h.m → a.refusal ≢ accepted → answering a.refusal 0 ≡ answer_of h
-size-refused h a e z = let m = large h.m a e z in ap (λ (n : ℕ). answering n 0) (above h.m a e m) ∙ answer_turned h (size m)
+size_refused : (h : Handed) (a : SizeAnswer) → a ≡ size_answer h.m → a.refusal ≢ accepted → answering a.refusal 0 ≡ answer_of h
+size_refused h a e z = let m = large h.m a e z in ap (λ (n : ℕ). answering n 0) (above h.m a e m) ∙ answer_turned h (size m)
 
 -- a is what the code was told of the size, which was taken
 module _ (h : Handed) {a : SizeAnswer} (e : a ≡ size_answer h.m) (z : a.refusal ≡ accepted) where
-  small-here : h.m ≤ largest
-  small-here = small _ _ e z
+  small_here : h.m ≤ largest
+  small_here = small _ _ e z
 
-  samples-here : a.size.samples ≡ samples h.m
-  samples-here = (within _ _ e small-here).1
+  samples_here : a.size.samples ≡ samples h.m
+  samples_here = (within _ _ e small_here).1
 
-  length-refused : length h.marks ≢ a.size.samples → answering wrong_length 0 ≡ answer_of h
-  length-refused n = answer_turned h (buffer small-here (λ k. n (k ∙ sym samples-here)))
+  length_refused : length h.marks ≢ a.size.samples → answering wrong_length 0 ≡ answer_of h
+  length_refused n = answer_turned h (buffer small_here (λ k. n (k ∙ sym samples_here)))
 
   -- the length was taken; g is the grid
   module _ (l : length h.marks ≡ a.size.samples) {g : Grid} (q : g ≡ grid_of h.m) where
-    long-here : length h.marks ≡ samples h.m
-    long-here = l ∙ samples-here
+    long_here : length h.marks ≡ samples h.m
+    long_here = l ∙ samples_here
 
     -- what the three calls on the grid ask
     ready : Sound g × (length h.marks ≡ samples g.m)
-    ready = (sound small-here q, long-here ∙ ap (λ (g : Grid). samples g.m) (sym q))
+    ready = (sound small_here q, long_here ∙ ap (λ (g : Grid). samples g.m) (sym q))
 
     -- r is what the code was told of the marks
     module _ {r : Bool} (b : r ≡ good_marks g.m h.marks) where
-      told-good : r ≡ good_marks h.m h.marks
-      told-good = b ∙ ap (λ (g : Grid). good_marks g.m h.marks) q
+      told_good : r ≡ good_marks h.m h.marks
+      told_good = b ∙ ap (λ (g : Grid). good_marks g.m h.marks) q
 
-      marks-refused : r ≡ false → answering bad_mark 0 ≡ answer_of h
-      marks-refused f =
+      marks_refused : r ≡ false → answering bad_mark 0 ≡ answer_of h
+      marks_refused f =
           answer_turned h
-          (mark small-here long-here (λ good. true≢false (sym ((good_marks_lem h.m h.marks).1 good) ∙ sym told-good ∙ f)))
+          (mark small_here long_here (λ good. true≢false (sym ((good_marks_lem h.m h.marks).1 good) ∙ sym told_good ∙ f)))
 
       -- the marks were taken
       module _ (t : r ≡ true) where
-        good-all : Good h
-        good-all = (good_marks_lem h.m h.marks).0 (sym told-good ∙ t)
+        good_all : Good h
+        good_all = (good_marks_lem h.m h.marks).0 (sym told_good ∙ t)
 
         plain_here : Plain h.marks
-        plain_here = plain_marks h.m h.marks long-here good-all
+        plain_here = plain_marks h.m h.marks long_here good_all
 
         -- v is what the code was told of the set: of good marks it is whether it is closed
         module _ {v : Bool} (w : v ≡ every (supported g.m (kept_by g.m h.marks)) (points g.m)) where
-          told-closed : v ≡ closed h.m (kept_of h)
-          told-closed =
+          told_closed : v ≡ closed h.m (kept_of h)
+          told_closed =
               w ∙ ap (λ (g : Grid). every (supported g.m (kept_by g.m h.marks)) (points g.m)) q
-              ∙ sym (good_closed h.m h.marks (sym told-good ∙ t))
+              ∙ sym (good_closed h.m h.marks (sym told_good ∙ t))
 
-          set-refused : v ≡ false → answering not_closed 0 ≡ answer_of h
-          set-refused f =
+          set_refused : v ≡ false → answering not_closed 0 ≡ answer_of h
+          set_refused f =
               answer_turned h
-              (unclosed small-here long-here good-all (λ shut. true≢false (sym ((closed_set h.m (kept_of h)).1 shut) ∙ sym told-closed ∙ f)))
+              (unclosed small_here long_here good_all (λ shut. true≢false (sym ((closed_set h.m (kept_of h)).1 shut) ∙ sym told_closed ∙ f)))
 
           -- the set was taken; n is the number that the code was told, and k whether the room is lacking
           module _ (u : v ≡ true) {n : ℕ} (c : n ≡ number g.m (kept_by g.m h.marks)) {k : Bool} (d : k ≡ no_room_for n (length h.places)) where
             closed_all : Closed h.m (Kept h)
-            closed_all = (closed_set h.m (kept_of h)).0 (sym told-closed ∙ u)
+            closed_all = (closed_set h.m (kept_of h)).0 (sym told_closed ∙ u)
 
-            told-number : n ≡ needed h
-            told-number = c ∙ ap (λ (g : Grid). number g.m (kept_by g.m h.marks)) q
+            told_number : n ≡ needed h
+            told_number = c ∙ ap (λ (g : Grid). number g.m (kept_by g.m h.marks)) q
 
-            needs-told : k ≡ no_room_for (needed h) (length h.places)
-            needs-told = d ∙ ap (λ (n : ℕ). no_room_for n (length h.places)) told-number
+            needs_told : k ≡ no_room_for (needed h) (length h.places)
+            needs_told = d ∙ ap (λ (n : ℕ). no_room_for n (length h.places)) told_number
 
-            room-refused : k ≡ true → answering no_room n ≡ answer_of h
-            room-refused f =
-                ap (answering no_room) told-number
+            room_refused : k ≡ true → answering no_room n ≡ answer_of h
+            room_refused f =
+                ap (answering no_room) told_number
                 ∙ answer_turned h
-                (room small-here long-here good-all closed_all (made h closed_all)
-                (ltb-true (length h.places) (3 * needed h) (sym needs-told ∙ f)))
+                (room small_here long_here good_all closed_all (made h closed_all)
+                (ltb-true (length h.places) (3 * needed h) (sym needs_told ∙ f)))
 
             taken : k ≡ false → answering accepted n ≡ answer_of h
             taken f =
-                ap (answering accepted) told-number
+                ap (answering accepted) told_number
                 ∙ answer_turned h
-                (nothing small-here long-here good-all closed_all (made h closed_all)
-                (ltb-false (length h.places) (3 * needed h) (sym needs-told ∙ f)))
+                (nothing small_here long_here good_all closed_all (made h closed_all)
+                (ltb-false (length h.places) (3 * needed h) (sym needs_told ∙ f)))
 
 pub returns-then-sized-ne-ACCEPTED : goal.returns-then-sized-ne-ACCEPTED
-returns-then-sized-ne-ACCEPTED c = c.refused.ensures ∙ size-refused _ _ c.size_of-sized.ensures c.if-sized-ne-ACCEPTED.true
+returns-then-sized-ne-ACCEPTED c = c.refused.ensures ∙ size_refused _ _ c.size_of-sized.ensures c.if-sized-ne-ACCEPTED.true
 
 pub returns-then-marks-size : goal.returns-then-marks-size
 returns-then-marks-size c =
     let h = handed c.args.marks.now c.args.m c.args.places.now in
-    c.refused-then-marks-size.ensures ∙ length-refused h c.size_of-sized.ensures c.if-sized-ne-ACCEPTED.false c.if-marks-size.true
+    c.refused-then-marks-size.ensures ∙ length_refused h c.size_of-sized.ensures c.if-sized-ne-ACCEPTED.false c.if-marks-size.true
 
 pub returns-then-not-good_marks : goal.returns-then-not-good_marks
 returns-then-not-good_marks c =
     let h = handed c.args.marks.now c.args.m c.args.places.now in
-    c.refused-then-not-good_marks.ensures ∙ marks-refused h c.size_of-sized.ensures c.if-sized-ne-ACCEPTED.false c.if-marks-size.false c.grid_of-g.ensures c.good_marks.ensures c.if-not-good_marks.true
+    c.refused-then-not-good_marks.ensures ∙ marks_refused h c.size_of-sized.ensures c.if-sized-ne-ACCEPTED.false c.if-marks-size.false c.grid_of-g.ensures c.good_marks.ensures c.if-not-good_marks.true
 
 pub closed-requires : goal.closed-requires
 closed-requires c =
@@ -124,7 +124,7 @@ closed-requires c =
 pub returns-then-not-closed : goal.returns-then-not-closed
 returns-then-not-closed c =
     let h = handed c.args.marks.now c.args.m c.args.places.now in
-    c.refused-then-not-closed.ensures ∙ set-refused h c.size_of-sized.ensures c.if-sized-ne-ACCEPTED.false c.if-marks-size.false c.grid_of-g.ensures c.good_marks.ensures c.if-not-good_marks.false c.closed.ensures c.if-not-closed.true
+    c.refused-then-not-closed.ensures ∙ set_refused h c.size_of-sized.ensures c.if-sized-ne-ACCEPTED.false c.if-marks-size.false c.grid_of-g.ensures c.good_marks.ensures c.if-not-good_marks.false c.closed.ensures c.if-not-closed.true
 
 pub number-triangles-requires : goal.number-triangles-requires
 number-triangles-requires c =
@@ -135,7 +135,7 @@ number-triangles-requires c =
 pub returns-then-lacks_room : goal.returns-then-lacks_room
 returns-then-lacks_room c =
     let h = handed c.args.marks.now c.args.m c.args.places.now in
-    room-refused h c.size_of-sized.ensures c.if-sized-ne-ACCEPTED.false c.if-marks-size.false c.grid_of-g.ensures c.good_marks.ensures c.if-not-good_marks.false c.closed.ensures c.if-not-closed.false c.number-triangles.ensures c.lacks_room.ensures c.if-lacks_room.true
+    room_refused h c.size_of-sized.ensures c.if-sized-ne-ACCEPTED.false c.if-marks-size.false c.grid_of-g.ensures c.good_marks.ensures c.if-not-good_marks.false c.closed.ensures c.if-not-closed.false c.number-triangles.ensures c.lacks_room.ensures c.if-lacks_room.true
 
 pub returns : goal.returns
 returns c =

@@ -11,9 +11,9 @@ use Rattle.aim.specs.Inner.{ground_by, ground_at}
 use Rattle.aim.proofs.ground.ground_at.Goals as goal
 
 -- a plane of the height that the code was told
-of-height : (m : ℕ) (heights : List ℤ) (p q w left : ℕ) {x y : Float} {r : GroundPlane} →
+of_height : (m : ℕ) (heights : List ℤ) (p q w left : ℕ) {x y : Float} {r : GroundPlane} →
     r ≡ ground_by m heights x p q w left → x ≡ y → r ≡ ground_by m heights y p q w left
-of-height m heights p q w left e h = e ∙ ap (λ (x : Float). ground_by m heights x p q w left) h
+of_height m heights p q w left e h = e ∙ ap (λ (x : Float). ground_by m heights x p q w left) h
 
 pub returns-then-t-eq1 : goal.returns-then-t-eq1
 unfolding ground_at
@@ -21,7 +21,7 @@ returns-then-t-eq1 c =
     let t = c.args.t in
     let x = c.height_in-height.ensures in
     record {
-      is = rw (odd_true t.left c.if-t-eq1.true) (of-height c.args.g.m c.args.heights.now t.r t.a t.l t.left c.ground_by.ensures x.is);
+      is = rw (odd_true t.left c.if-t-eq1.true) (of_height c.args.g.m c.args.heights.now t.r t.a t.l t.left c.ground_by.ensures x.is);
       stored = x.stored;
     }
 
@@ -31,6 +31,6 @@ returns c =
     let t = c.args.t in
     let x = c.height_in-height.ensures in
     record {
-      is = rw (ne_eqb (t.left % 2) 1 c.if-t-eq1.false) (of-height c.args.g.m c.args.heights.now t.l t.a t.r t.left c.ground_by-2.ensures x.is);
+      is = rw (ne_eqb (t.left % 2) 1 c.if-t-eq1.false) (of_height c.args.g.m c.args.heights.now t.l t.a t.r t.left c.ground_by-2.ensures x.is);
       stored = x.stored;
     }

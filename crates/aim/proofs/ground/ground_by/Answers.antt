@@ -59,16 +59,16 @@ module _ {g : Grid} {heights : List ℤ} {p q w left : ℕ} (f : Facing g height
       let h = standing heights in
       tilt (h w) (h q) (h p) (point m w).x (point m q).x (point m p).x
 
-  east-divides : Representable format east (2 ^ left)
-  east-divides =
+  east_divides : Representable format east (2 ^ left)
+  east_divides =
       tilt_fits first second third
       (beside f.sound.small f.first).1
       (beside f.sound.small f.second).1
       (beside f.sound.small f.third).1
       few
 
-  north-divides : Representable format north (2 ^ left)
-  north-divides =
+  north_divides : Representable format north (2 ^ left)
+  north_divides =
       tilt_fits third second first
       (beside f.sound.small f.third).0
       (beside f.sound.small f.second).0
@@ -85,15 +85,15 @@ tilt-requires c =
 
 pub quotient-requires : goal.quotient-requires
 quotient-requires c =
-    let read-p : Held c.args.heights.now c.args.p = record { sfits = c.hp-1.given } in
-    let read-q : Held c.args.heights.now c.args.q = record { sfits = c.hq-1.given } in
-    let read-w : Held c.args.heights.now c.args.w = record { sfits = c.hw-1.given } in
-    let east-told : in32 c.tilt.result ≡ east c.requires read-p read-q read-w =
-    told c.tilt.type_inv c.tilt.ensures (first c.requires read-p read-q read-w) (second c.requires read-p read-q read-w) (third c.requires read-p read-q read-w)
+    let read_p : Held c.args.heights.now c.args.p = record { sfits = c.hp-1.given } in
+    let read_q : Held c.args.heights.now c.args.q = record { sfits = c.hq-1.given } in
+    let read_w : Held c.args.heights.now c.args.w = record { sfits = c.hw-1.given } in
+    let east_told : in32 c.tilt.result ≡ east c.requires read_p read_q read_w =
+    told c.tilt.type_inv c.tilt.ensures (first c.requires read_p read_q read_w) (second c.requires read_p read_q read_w) (third c.requires read_p read_q read_w)
     (λ i. (c.point-first.ensures i).y)
     (λ i. (c.point-second.ensures i).y)
     (λ i. (c.point-third.ensures i).y) in
-    rw (east-told, shifted (few c.requires read-p read-q read-w)) (east-divides c.requires read-p read-q read-w)
+    rw (east_told, shifted (few c.requires read_p read_q read_w)) (east_divides c.requires read_p read_q read_w)
 
 pub tilt-requires-2 : goal.tilt-requires-2
 tilt-requires-2 c =
@@ -105,32 +105,32 @@ tilt-requires-2 c =
 
 pub quotient-requires-2 : goal.quotient-requires-2
 quotient-requires-2 c =
-    let read-p : Held c.args.heights.now c.args.p = record { sfits = c.hp-1.given } in
-    let read-q : Held c.args.heights.now c.args.q = record { sfits = c.hq-1.given } in
-    let read-w : Held c.args.heights.now c.args.w = record { sfits = c.hw-1.given } in
-    let north-told : in32 c.tilt-2.result ≡ north c.requires read-p read-q read-w =
-    told c.tilt-2.type_inv c.tilt-2.ensures (third c.requires read-p read-q read-w) (second c.requires read-p read-q read-w) (first c.requires read-p read-q read-w)
+    let read_p : Held c.args.heights.now c.args.p = record { sfits = c.hp-1.given } in
+    let read_q : Held c.args.heights.now c.args.q = record { sfits = c.hq-1.given } in
+    let read_w : Held c.args.heights.now c.args.w = record { sfits = c.hw-1.given } in
+    let north_told : in32 c.tilt-2.result ≡ north c.requires read_p read_q read_w =
+    told c.tilt-2.type_inv c.tilt-2.ensures (third c.requires read_p read_q read_w) (second c.requires read_p read_q read_w) (first c.requires read_p read_q read_w)
     (λ i. (c.point-third.ensures i).x)
     (λ i. (c.point-second.ensures i).x)
     (λ i. (c.point-first.ensures i).x) in
-    rw (north-told, shifted (few c.requires read-p read-q read-w)) (north-divides c.requires read-p read-q read-w)
+    rw (north_told, shifted (few c.requires read_p read_q read_w)) (north_divides c.requires read_p read_q read_w)
 
 pub returns : goal.returns
 unfolding ground_by
 returns c =
-    let read-p : Held c.args.heights.now c.args.p = record { sfits = c.hp-1.given } in
-    let read-q : Held c.args.heights.now c.args.q = record { sfits = c.hq-1.given } in
-    let read-w : Held c.args.heights.now c.args.w = record { sfits = c.hw-1.given } in
-    let east-told : in32 c.tilt.result ≡ east c.requires read-p read-q read-w =
-    told c.tilt.type_inv c.tilt.ensures (first c.requires read-p read-q read-w) (second c.requires read-p read-q read-w) (third c.requires read-p read-q read-w)
+    let read_p : Held c.args.heights.now c.args.p = record { sfits = c.hp-1.given } in
+    let read_q : Held c.args.heights.now c.args.q = record { sfits = c.hq-1.given } in
+    let read_w : Held c.args.heights.now c.args.w = record { sfits = c.hw-1.given } in
+    let east_told : in32 c.tilt.result ≡ east c.requires read_p read_q read_w =
+    told c.tilt.type_inv c.tilt.ensures (first c.requires read_p read_q read_w) (second c.requires read_p read_q read_w) (third c.requires read_p read_q read_w)
     (λ i. (c.point-first.ensures i).y)
     (λ i. (c.point-second.ensures i).y)
     (λ i. (c.point-third.ensures i).y) in
-    let north-told : in32 c.tilt-2.result ≡ north c.requires read-p read-q read-w =
-    told c.tilt-2.type_inv c.tilt-2.ensures (third c.requires read-p read-q read-w) (second c.requires read-p read-q read-w) (first c.requires read-p read-q read-w)
+    let north_told : in32 c.tilt-2.result ≡ north c.requires read_p read_q read_w =
+    told c.tilt-2.type_inv c.tilt-2.ensures (third c.requires read_p read_q read_w) (second c.requires read_p read_q read_w) (first c.requires read_p read_q read_w)
     (λ i. (c.point-third.ensures i).x)
     (λ i. (c.point-second.ensures i).x)
     (λ i. (c.point-first.ensures i).x) in
-    let e = c.quotient.ensures ∙ (λ i. quotient format (east-told i) (shifted (few c.requires read-p read-q read-w) i)) in
-    let n = c.quotient-2.ensures ∙ (λ i. quotient format (north-told i) (shifted (few c.requires read-p read-q read-w) i)) in
+    let e = c.quotient.ensures ∙ (λ i. quotient format (east_told i) (shifted (few c.requires read_p read_q read_w) i)) in
+    let n = c.quotient-2.ensures ∙ (λ i. quotient format (north_told i) (shifted (few c.requires read_p read_q read_w) i)) in
     λ i. record { height = c.args.height; east = e i; north = n i }

@@ -17,22 +17,22 @@ apart q w = to_z w32 q -ℤ to_z w32 w
 abbrev term : ℤ → ℕ → ℕ → ℤ
 term h q w = in32 (to_z w16 (of_z w16 h)) *ℤ in32 (apart q w)
 
-apart-exact : {q w : ℕ} → q ≤ widest → w ≤ widest → Exact (apart q w) (pos q -ℤ pos w) 256
-apart-exact k l = difference (counted k (omega arith)) (counted l (omega arith))
+apart_exact : {q w : ℕ} → q ≤ widest → w ≤ widest → Exact (apart q w) (pos q -ℤ pos w) 256
+apart_exact k l = difference (counted k (omega arith)) (counted l (omega arith))
 
-term-exact : {h : ℤ} {q w : ℕ} → SFits w16 h → q ≤ widest → w ≤ widest → Exact (term h q w) (h *ℤ (pos q -ℤ pos w)) 8388608
-term-exact f k l = product (held (handed f) (omega arith)) (held (apart-exact k l) (omega arith))
+term_exact : {h : ℤ} {q w : ℕ} → SFits w16 h → q ≤ widest → w ≤ widest → Exact (term h q w) (h *ℤ (pos q -ℤ pos w)) 8388608
+term_exact f k l = product (held (handed f) (omega arith)) (held (apart_exact k l) (omega arith))
 
 module _ {hp hq hw : ℤ} {cp cq cw : ℕ} (fp : SFits w16 hp) (fq : SFits w16 hq) (fw : SFits w16 hw)
     (kp : cp ≤ widest) (kq : cq ≤ widest) (kw : cw ≤ widest) where
   first : Exact (term hp cq cw) (hp *ℤ (pos cq -ℤ pos cw)) 8388608
-  first = term-exact fp kq kw
+  first = term_exact fp kq kw
 
   second : Exact (term hq cw cp) (hq *ℤ (pos cw -ℤ pos cp)) 8388608
-  second = term-exact fq kw kp
+  second = term_exact fq kw kp
 
   third : Exact (term hw cp cq) (hw *ℤ (pos cp -ℤ pos cq)) 8388608
-  third = term-exact fw kp kq
+  third = term_exact fw kp kq
 
   three : Exact (in32 (in32 (term hp cq cw) +ℤ in32 (term hq cw cp))
       +ℤ in32 (term hw cp cq))

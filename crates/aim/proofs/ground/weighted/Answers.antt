@@ -32,47 +32,47 @@ right {heights} {t} s l f = share heights t.wr t.r (omega (arith, l)) s.right f
 
 pub overflow_mul-result : goal.overflow_mul-result
 overflow_mul-result c =
-    let read-left : Held c.args.heights.now c.args.t.l = record { sfits = c.result-1.given } in
-    fits (left c.requires.0 c.requires.1 read-left) (omega arith)
+    let read_left : Held c.args.heights.now c.args.t.l = record { sfits = c.result-1.given } in
+    fits (left c.requires.0 c.requires.1 read_left) (omega arith)
 
 pub overflow_mul-result-2 : goal.overflow_mul-result-2
 overflow_mul-result-2 c =
-    let read-apex : Held c.args.heights.now c.args.t.a = record { sfits = c.result-2-1.given } in
-    fits (apex c.requires.0 c.requires.1 read-apex) (omega arith)
+    let read_apex : Held c.args.heights.now c.args.t.a = record { sfits = c.result-2-1.given } in
+    fits (apex c.requires.0 c.requires.1 read_apex) (omega arith)
 
 pub overflow_add-result : goal.overflow_add-result
 overflow_add-result c =
-    let read-left : Held c.args.heights.now c.args.t.l = record { sfits = c.result-1.given } in
-    let read-apex : Held c.args.heights.now c.args.t.a = record { sfits = c.result-2-1.given } in
-    fits (first_two (omega arith) (left c.requires.0 c.requires.1 read-left) (apex c.requires.0 c.requires.1 read-apex)) (omega arith)
+    let read_left : Held c.args.heights.now c.args.t.l = record { sfits = c.result-1.given } in
+    let read_apex : Held c.args.heights.now c.args.t.a = record { sfits = c.result-2-1.given } in
+    fits (first_two (omega arith) (left c.requires.0 c.requires.1 read_left) (apex c.requires.0 c.requires.1 read_apex)) (omega arith)
 
 pub overflow_mul-result-3 : goal.overflow_mul-result-3
 overflow_mul-result-3 c =
-    let read-right : Held c.args.heights.now c.args.t.r = record { sfits = c.result-3-1.given } in
-    fits (right c.requires.0 c.requires.1 read-right) (omega arith)
+    let read_right : Held c.args.heights.now c.args.t.r = record { sfits = c.result-3-1.given } in
+    fits (right c.requires.0 c.requires.1 read_right) (omega arith)
 
 pub overflow_add-result-2 : goal.overflow_add-result-2
 overflow_add-result-2 c =
-    let read-left : Held c.args.heights.now c.args.t.l = record { sfits = c.result-1.given } in
-    let read-apex : Held c.args.heights.now c.args.t.a = record { sfits = c.result-2-1.given } in
-    let read-right : Held c.args.heights.now c.args.t.r = record { sfits = c.result-3-1.given } in
-    fits (all_three (omega arith) (left c.requires.0 c.requires.1 read-left) (apex c.requires.0 c.requires.1 read-apex) (right c.requires.0 c.requires.1 read-right)) (omega arith)
+    let read_left : Held c.args.heights.now c.args.t.l = record { sfits = c.result-1.given } in
+    let read_apex : Held c.args.heights.now c.args.t.a = record { sfits = c.result-2-1.given } in
+    let read_right : Held c.args.heights.now c.args.t.r = record { sfits = c.result-3-1.given } in
+    fits (all_three (omega arith) (left c.requires.0 c.requires.1 read_left) (apex c.requires.0 c.requires.1 read_apex) (right c.requires.0 c.requires.1 read_right)) (omega arith)
 
 pub returns : goal.returns
 unfolding weighted_in
 returns c =
-    let read-left : Held c.args.heights.now c.args.t.l = record { sfits = c.result-1.given } in
-    let read-apex : Held c.args.heights.now c.args.t.a = record { sfits = c.result-2-1.given } in
-    let read-right : Held c.args.heights.now c.args.t.r = record { sfits = c.result-3-1.given } in
-    let same = (held (all_three (omega arith) (left c.requires.0 c.requires.1 read-left) (apex c.requires.0 c.requires.1 read-apex) (right c.requires.0 c.requires.1 read-right)) (omega arith)).same in
+    let read_left : Held c.args.heights.now c.args.t.l = record { sfits = c.result-1.given } in
+    let read_apex : Held c.args.heights.now c.args.t.a = record { sfits = c.result-2-1.given } in
+    let read_right : Held c.args.heights.now c.args.t.r = record { sfits = c.result-3-1.given } in
+    let same = (held (all_three (omega arith) (left c.requires.0 c.requires.1 read_left) (apex c.requires.0 c.requires.1 read_apex) (right c.requires.0 c.requires.1 read_right)) (omega arith)).same in
     let a = c.args in
     let p = c.requires in
     record {
       is = same;
-      small = rw same (weighted_held a.heights.now a.t p.0 p.1 p.2 read-left read-apex read-right);
+      small = rw same (weighted_held a.heights.now a.t p.0 p.1 p.2 read_left read_apex read_right);
       stored = record {
-        left = of_16 a.heights.now a.t.l p.0.left read-left;
-        apex = of_16 a.heights.now a.t.a p.0.apex read-apex;
-        right = of_16 a.heights.now a.t.r p.0.right read-right;
+        left = of_16 a.heights.now a.t.l p.0.left read_left;
+        apex = of_16 a.heights.now a.t.a p.0.apex read_apex;
+        right = of_16 a.heights.now a.t.r p.0.right read_right;
       };
     }

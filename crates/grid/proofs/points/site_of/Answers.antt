@@ -26,49 +26,49 @@ module _ (m : ℕ) (p : Point) (u : Units) (e : u ≡ units m p) where
     at_corner : r ≡ true → Sited m p u Corner
     at_corner t = made Corner (kind_corner m p (sym is ∙ t))
 
-    module _ (no-corner : r ≡ false) where
+    module _ (no_corner : r ≡ false) where
       inner : is_corner m p ≡ false
-      inner = sym is ∙ no-corner
+      inner = sym is ∙ no_corner
 
-      at-north-south : u.across % 2 ≡ 0 → Sited m p u NorthSouth
-      at-north-south a = made NorthSouth (kind_north_south m p inner (rw e at a))
+      at_north_south : u.across % 2 ≡ 0 → Sited m p u NorthSouth
+      at_north_south a = made NorthSouth (kind_north_south m p inner (rw e at a))
 
-      module _ (odd-across : u.across % 2 ≢ 0) where
+      module _ (odd_across : u.across % 2 ≢ 0) where
         across : (units m p).across % 2 ≡ 1
         across = let o : u.across % 2 ≡ 1 = omega arith in rw e at o
 
-        at-east-west : u.up % 2 ≡ 0 → Sited m p u EastWest
-        at-east-west b = made EastWest (kind_east_west m p inner across (rw e at b))
+        at_east_west : u.up % 2 ≡ 0 → Sited m p u EastWest
+        at_east_west b = made EastWest (kind_east_west m p inner across (rw e at b))
 
-        module _ (odd-up : u.up % 2 ≢ 0) where
+        module _ (odd_up : u.up % 2 ≢ 0) where
           up : (units m p).up % 2 ≡ 1
           up = let o : u.up % 2 ≡ 1 = omega arith in rw e at o
 
-          at-rising : u.across / 2 % 2 ≡ u.up / 2 % 2 → Sited m p u Rising
-          at-rising b = made Rising (kind_rising m p inner across up (rw e at b))
+          at_rising : u.across / 2 % 2 ≡ u.up / 2 % 2 → Sited m p u Rising
+          at_rising b = made Rising (kind_rising m p inner across up (rw e at b))
 
-          at-falling : u.across / 2 % 2 ≢ u.up / 2 % 2 → Sited m p u Falling
-          at-falling b = made Falling (kind_falling m p inner across up (rw e at b))
+          at_falling : u.across / 2 % 2 ≢ u.up / 2 % 2 → Sited m p u Falling
+          at_falling b = made Falling (kind_falling m p inner across up (rw e at b))
 
 pub returns-then-is_corner : goal.returns-then-is_corner
 returns-then-is_corner c = at_corner _ _ _ c.units_of-u.ensures _ c.is_corner.ensures c.if-is_corner.true
 
 pub returns-then-u-eq0 : goal.returns-then-u-eq0
 returns-then-u-eq0 c =
-    at-north-south _ _ _ c.units_of-u.ensures _ c.is_corner.ensures
+    at_north_south _ _ _ c.units_of-u.ensures _ c.is_corner.ensures
     c.if-is_corner.false
     c.if-u-eq0.true
 
 pub returns-then-u-eq0-2 : goal.returns-then-u-eq0-2
 returns-then-u-eq0-2 c =
-    at-east-west _ _ _ c.units_of-u.ensures _ c.is_corner.ensures
+    at_east_west _ _ _ c.units_of-u.ensures _ c.is_corner.ensures
     c.if-is_corner.false
     c.if-u-eq0.false
     c.if-u-eq0-2.true
 
 pub returns-then-u : goal.returns-then-u
 returns-then-u c =
-    at-rising _ _ _ c.units_of-u.ensures _ c.is_corner.ensures
+    at_rising _ _ _ c.units_of-u.ensures _ c.is_corner.ensures
     c.if-is_corner.false
     c.if-u-eq0.false
     c.if-u-eq0-2.false
@@ -76,7 +76,7 @@ returns-then-u c =
 
 pub returns : goal.returns
 returns c =
-    at-falling _ _ _ c.units_of-u.ensures _ c.is_corner.ensures
+    at_falling _ _ _ c.units_of-u.ensures _ c.is_corner.ensures
     c.if-is_corner.false
     c.if-u-eq0.false
     c.if-u-eq0-2.false

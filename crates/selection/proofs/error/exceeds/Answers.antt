@@ -25,9 +25,9 @@ lifted : (z : ℤ) → nat_abs z ≤ farthest → z +ℤ pos farthest ≡ pos (l
 lifted (pos n) l = refl
 lifted (negsuc n) l = rw (le-ltb farthest (suc n) l)
 
-lift-most : (z : ℤ) → nat_abs z ≤ farthest → lift z ≤ 2 * farthest
-lift-most (pos n) l = omega arith
-lift-most (negsuc n) l = omega arith
+lift_most : (z : ℤ) → nat_abs z ≤ farthest → lift z ≤ 2 * farthest
+lift_most (pos n) l = omega arith
+lift_most (negsuc n) l = omega arith
 
 -- with the limit in its stead it is from 0 to twice the limit just where it lies within the limit, either way
 within : (limit : ℕ) (z : ℤ) {r : ℕ} → limit ≤ farthest → nat_abs z ≤ farthest → r < 2 ^ 32 → (r + (farthest - limit)) % 2 ^ 32 ≡ lift z →

@@ -31,8 +31,8 @@ module _ {g : Grid} {limit : ℕ} {survey heights : List ℤ} {p : Point} {d i :
   inside : Inside g.m (ends g.m p).first × Inside g.m (ends g.m p).second
   inside = let u = ends_coarser g.m p spread.inside spread.inner in (u.0.inside, u.1.inside)
 
-  first-is : i - d ≡ place g.m (ends g.m p).first
-  first-is = omega (arith, (between spread).before)
+  first_is : i - d ≡ place g.m (ends g.m p).first
+  first_is = omega (arith, (between spread).before)
 
   second_is : i + d ≡ place g.m (ends g.m p).second
   second_is = omega (arith, (between spread).behind)
@@ -40,15 +40,15 @@ module _ {g : Grid} {limit : ℕ} {survey heights : List ℤ} {p : Point} {d i :
   rooms : (i < length survey) × (d ≤ i) × (i + d < length heights)
   rooms = (room survey ready.long spread.inside is, omega (arith, (between spread).before), room heights long inside.1 second_is)
 
-  void-read : SFits w16 (get_or survey i (pos 0)) → is_void (reading survey i) ≡ is_void (sample g.m survey p)
-  void-read f = ap is_void (read survey ready.long spread.inside is f)
+  void_read : SFits w16 (get_or survey i (pos 0)) → is_void (reading survey i) ≡ is_void (sample g.m survey p)
+  void_read f = ap is_void (read survey ready.long spread.inside is f)
 
-  error-read : (limit : ℕ) → SFits w16 (get_or heights i (pos 0)) → SFits w16 (get_or heights (i - d) (pos 0)) →
+  error_read : (limit : ℕ) → SFits w16 (get_or heights i (pos 0)) → SFits w16 (get_or heights (i - d) (pos 0)) →
       SFits w16 (get_or heights (i + d) (pos 0)) → is_void (sample g.m survey p) ≡ false →
       ltb limit (doubled_error (reading heights i) (reading heights (i - d)) (reading heights (i + d))) ≡ exceeding g.m survey limit p
-  error-read limit fh fa fb n =
+  error_read limit fh fa fb n =
       let h = read heights long spread.inside is fh in
-      let a = read heights long inside.0 first-is fa in
+      let a = read heights long inside.0 first_is fa in
       let b = read heights long inside.1 second_is fb in
       (λ j. ltb limit (doubled_error (h j) (a j) (b j)))
       ∙ exceeding_filled g.m survey limit p ready.filled n
@@ -57,7 +57,7 @@ module _ {g : Grid} {limit : ℕ} {survey heights : List ℤ} {p : Point} {d i :
   void_mark : {t k kept : Bool} → SFits w16 (get_or survey i (pos 0)) → t ≡ is_void (reading survey i) → t ≡ true → kept ≡ k →
       mark_by true false k ≡ mark_by (is_void (sample g.m survey p)) (exceeding g.m survey limit p) kept
   void_mark f b t k =
-      let v = sym (void-read f) ∙ sym b ∙ t in
+      let v = sym (void_read f) ∙ sym b ∙ t in
       let n = void_within g.m survey limit p v in
       sym (λ j. mark_by (v j) (n j) (k j))
 
@@ -67,8 +67,8 @@ module _ {g : Grid} {limit : ℕ} {survey heights : List ℤ} {p : Point} {d i :
       e ≡ ltb limit (doubled_error (reading heights i) (reading heights (i - d)) (reading heights (i + d))) → e ≡ o → kept ≡ k →
       mark_by false o k ≡ mark_by (is_void (sample g.m survey p)) (exceeding g.m survey limit p) kept
   surveyed_mark f fh fa fb b t x o k =
-      let n = sym (void-read f) ∙ sym b ∙ t in
-      let over = sym (error-read limit fh fa fb n) ∙ sym x ∙ o in
+      let n = sym (void_read f) ∙ sym b ∙ t in
+      let over = sym (error_read limit fh fa fb n) ∙ sym x ∙ o in
       sym (λ j. mark_by (n j) (over j) (k j))
 
 pub offset_bounds-survey-at : goal.offset_bounds-survey-at
