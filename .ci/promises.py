@@ -52,7 +52,7 @@ def once_faults(contracts, sources):
         for name, _ in functions_of(path, text):
             crate, *inner = name.split("::")
             read = re.search(rf"^use Rattle\.{crate}\.proofs\.{re.escape('.'.join(inner))}\.Reads as ([\w-]+)$", contracts, re.M)
-            said = read and re.search(rf"^pub \w+_once\w* : .* → {read[1]}\.Learnt k a r o → {read[1]}\.Learnt k a r' o' →", contracts, re.M)
+            said = read and re.search(rf"^pub {read[1].replace('-', '_')}_once(?:_lem)? : .* → {read[1]}\.Learnt k a r o → {read[1]}\.Learnt k a r' o' →", contracts, re.M)
             if not said:
                 faults.append(f"{name}: crates/settled/proofs/Contracts.antt does not say that no second answer fits its contract")
     return faults
@@ -99,6 +99,6 @@ def path_faults(document, exists):
 
 
 def cited_faults(document, edits, words):
-    """A name with an underscore is that of an edit, or a word of the code, the rules or the proofs."""
+    """A name with an underscore is that of an edit, or a word of the code, or defined in the rules or the proofs."""
     cited = sorted(set(re.findall(r"`([a-z]+(?:_[a-z0-9]+)+)`", document)))
     return [f"docs/PROMISES.md names {name}, which is no edit and no word of the crates" for name in cited if name not in edits and name not in words]

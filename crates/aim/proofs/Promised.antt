@@ -14,8 +14,8 @@ use Rattle.aim.specs.declared.HeightAnswer.{HeightAnswer}
 use Rattle.aim.specs.declared.HeightAnswer.TheVariants.{Surveyed, Filled, Refused}
 use Rattle.aim.specs.declared.PlaneAnswer.{PlaneAnswer}
 use Rattle.aim.proofs.Rule.{follows_height, follows_plane}
-use Rattle.aim.proofs.height.Reads as height-reads
-use Rattle.aim.proofs.plane.Reads as plane-reads
+use Rattle.aim.proofs.height.Reads as height_reads
+use Rattle.aim.proofs.plane.Reads as plane_reads
 
 -- each case of the enum by its name (a slip in both the definition and the code would show here alone)
 pub named : (x : Float) (n : ℕ) →
@@ -27,10 +27,10 @@ pub in_place : (marks : List ℕ) (heights : List ℤ) (m x y : ℕ) →
     let h = handed marks heights m x y in (h.marks ≡ marks) × (h.heights ≡ heights) × (h.m ≡ m) × (queried h ≡ at x y)
 in_place marks heights m x y = (refl, refl, refl, refl)
 
-pub height_promised : (k : _) (a : _) (r : HeightAnswer) (o : _) → height-reads.Learnt k a r o →
+pub height_promised : (k : _) (a : _) (r : HeightAnswer) (o : _) → height_reads.Learnt k a r o →
     FollowsHeight (handed a.0.now a.1.0.now a.1.1.0 a.1.1.1.0 a.1.1.1.1.0) r
 height_promised k a r o promise = (follows_height promise.sixteen).0 promise.answer
 
-pub plane_promised : (k : _) (a : _) (r : PlaneAnswer) (o : _) → plane-reads.Learnt k a r o →
+pub plane_promised : (k : _) (a : _) (r : PlaneAnswer) (o : _) → plane_reads.Learnt k a r o →
     FollowsPlane (handed a.0.now a.1.0.now a.1.1.0 a.1.1.1.0 a.1.1.1.1.0) r
 plane_promised k a r o promise = (follows_plane promise.sixteen).0 promise.answer

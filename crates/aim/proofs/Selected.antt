@@ -16,7 +16,7 @@ use Rattle.survey.specs.Rule.{Sixteen}
 use Rattle.survey.proofs.Rule.{fills_only, filled_not_void}
 use Rattle.selection.specs.Selected.{Handed as SelectionHanded, Selects}
 use Rattle.selection.specs.declared.Selected.{Selected}
-use Rattle.selection.proofs.Accepted.{accepted_handed, turned_only as selected-only}
+use Rattle.selection.proofs.Accepted.{accepted_handed, turned_only as selected_only}
 use Rattle.selection.proofs.Rule.{turned_down_lem, selection}
 use Rattle.mesh.specs.Triangles.{Three}
 use Rattle.aim.specs.Aimed.{Handed, handed, refusal, Said, said, height_at, plane_at}
@@ -33,7 +33,7 @@ module _ {s : SelectionHanded} {a : Selected} {marks : List ℕ} {heights : List
   -- no height written is void
   written : (p : Point) → Inside s.m p → is_void (sample s.m heights p) ≡ false
   written p h =
-      let t = accepted_handed s (sym (selected-only s (turned_down_lem k)) ∙ ok) in
+      let t = accepted_handed s (sym (selected_only s (turned_down_lem k)) ∙ ok) in
       let is = fills_only s.m s.survey t.corners heights (selection k ok).fills in
       rw is (filled_not_void s.m s.survey t.corners t.lengths.survey small p h)
 
@@ -51,7 +51,7 @@ module _ {s : SelectionHanded} {a : Selected} {marks : List ℕ} {heights : List
 
     pub selected : refusal asked ≡ accepted
     selected =
-        let t = accepted_handed s (sym (selected-only s (turned_down_lem k)) ∙ ok) in
+        let t = accepted_handed s (sym (selected_only s (turned_down_lem k)) ∙ ok) in
         let inside = corners_inside (weighs asked within).triangle in
         sym
         (turned_only asked

@@ -48,7 +48,7 @@ alike s p = eqb ((p.x / (2 * s)) % 2) ((p.y / (2 * s)) % 2)
 abbrev pub kind_by : Bool → Bool → Bool → Kind
 kind_by true true rising = cond rising Rising Falling
 kind_by true false rising = EastWest
-kind_by false oddUp rising = NorthSouth
+kind_by false odd_up rising = NorthSouth
 
 unfoldable pub kind : ℕ → Point → Kind
 kind m p =
@@ -147,7 +147,7 @@ dependents m p = dependents_by (kind m p) (side m) (spacing m p) p.x p.y
 abbrev pub centre_bit : Bool → Bool → ℕ
 centre_bit true true = 1
 centre_bit true false = 0
-centre_bit false oddUp = 0
+centre_bit false odd_up = 0
 
 -- Rank: an edge point of spacing 2^j has rank 2j, a centre point 2j + 1. What a point depends on has the next rank. By the
 -- same formula grid corners have rank 2m or 2m + 1, above all others.

@@ -8,8 +8,8 @@ use native.Mathlib.Decide.{ℕ_discrete}
 use borrow.Author.Tests.{eq-eqb, ne_eqb}
 use Rattle.grid.specs.Refusal.{accepted}
 use Rattle.frame.specs.Frame.{size_in}
-use Rattle.frame.specs.Frame.{refusal as formRefusal}
-use Rattle.selection.specs.Selected.{refusal as selectionRefusal}
+use Rattle.frame.specs.Frame.{refusal as form_refusal}
+use Rattle.selection.specs.Selected.{refusal as selection_refusal}
 use Rattle.mesh.specs.Triangles.{mesh, places_of, number}
 use Rattle.mesh.specs.declared.Meshed.{Meshed}
 use Rattle.listing.specs.Program.{selected, refusal, kept_in, answer_in, places_in}
@@ -19,14 +19,14 @@ turned_down n = record { refusal = n; triangles = 0 }
 
 module _ (input : List ℕ) where
   -- the input's own refusal
-  pub refusal_form : formRefusal input ≢ accepted → refusal input ≡ formRefusal input
+  pub refusal_form : form_refusal input ≢ accepted → refusal input ≡ form_refusal input
   unfolding refusal
-  refusal_form n = rw (ne_eqb (formRefusal input) accepted n)
+  refusal_form n = rw (ne_eqb (form_refusal input) accepted n)
 
   -- selection's own
-  pub refusal_selection : formRefusal input ≡ accepted → refusal input ≡ selectionRefusal (selected input)
+  pub refusal_selection : form_refusal input ≡ accepted → refusal input ≡ selection_refusal (selected input)
   unfolding refusal
-  refusal_selection e = rw (eq-eqb (formRefusal input) accepted e)
+  refusal_selection e = rw (eq-eqb (form_refusal input) accepted e)
 
   pub answer_taken : refusal input ≡ accepted → answer_in input ≡ record { refusal = accepted; triangles = number (size_in input) (kept_in input) }
   unfolding answer_in
@@ -53,9 +53,9 @@ module _ (input : List ℕ) where
       by (no n) = ap (λ (a : Meshed). a.refusal) (answer_refused n)
 
   -- an accepted input is of the right form
-  pub formed : refusal input ≡ accepted → formRefusal input ≡ accepted
-  formed ok = by (ℕ_discrete (formRefusal input) accepted)
+  pub formed : refusal input ≡ accepted → form_refusal input ≡ accepted
+  formed ok = by (ℕ_discrete (form_refusal input) accepted)
     where
-      by : Dec (formRefusal input ≡ accepted) → formRefusal input ≡ accepted
+      by : Dec (form_refusal input ≡ accepted) → form_refusal input ≡ accepted
       by (yes e) = e
       by (no n) = sym (refusal_form n) ∙ ok

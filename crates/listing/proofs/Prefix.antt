@@ -9,7 +9,7 @@ use native.Mathlib.Decide.{ℕ_discrete}
 use lib.Seq.{take_all}
 use Rattle.grid.specs.Refusal.{accepted}
 use Rattle.frame.specs.Frame.{longest}
-use Rattle.frame.specs.Frame.{refusal as formRefusal}
+use Rattle.frame.specs.Frame.{refusal as form_refusal}
 use Rattle.frame.specs.declared.Frame.{Frame}
 use Rattle.frame.proofs.Accepted.{accepted_input}
 use Rattle.frame.proofs.Answered.{answer_refusal}
@@ -19,22 +19,22 @@ use Rattle.listing.specs.Text.{text_of, text_in}
 use Rattle.listing.proofs.Cases.{turned_down, refusal_form, answer_refused, places_refused}
 
 module _ (input : List ℕ) where
-  same : formRefusal (seen input) ≡ formRefusal input
+  same : form_refusal (seen input) ≡ form_refusal input
   same = sym (answer_refusal (seen input)) ∙ ap (λ (a : Frame). a.refusal) (seen_answer input) ∙ answer_refusal input
 
-  whole : formRefusal input ≡ accepted → seen input ≡ input
+  whole : form_refusal input ≡ accepted → seen input ≡ input
   whole e =
       let a = accepted_input input e in
       take_all (suc longest) input (omega (arith, a.long, total_most a.small))
 
   -- refused with the same number
-  alike : formRefusal input ≢ accepted → refusal (seen input) ≡ refusal input
+  alike : form_refusal input ≢ accepted → refusal (seen input) ≡ refusal input
   alike n = refusal_form (seen input) (λ e. n (sym same ∙ e)) ∙ same ∙ sym (refusal_form input n)
 
   pub seen_text : text_in (seen input) ≡ text_in input
-  seen_text = by (ℕ_discrete (formRefusal input) accepted)
+  seen_text = by (ℕ_discrete (form_refusal input) accepted)
     where
-      by : Dec (formRefusal input ≡ accepted) → text_in (seen input) ≡ text_in input
+      by : Dec (form_refusal input ≡ accepted) → text_in (seen input) ≡ text_in input
       by (yes e) = ap text_in (whole e)
       by (no n) =
           let e = alike n in

@@ -13,18 +13,18 @@ use Rattle.grid.specs.Grid.{samples}
 use Rattle.grid.specs.Refusal.{accepted}
 use Rattle.grid.specs.Sizes.{size_of}
 use Rattle.frame.specs.Frame.{largest_framed, size_in, tolerance_in, survey_in, Surveys}
-use Rattle.frame.specs.Frame.{handed as reading, refusal as formRefusal}
+use Rattle.frame.specs.Frame.{handed as reading, refusal as form_refusal}
 use Rattle.frame.specs.Rule.{Turned, Follows, none}
 use Rattle.frame.specs.declared.Frame.{Frame}
 use Rattle.frame.proofs.Accepted.{turned_only}
 use Rattle.frame.proofs.Answered.{answering}
-use Rattle.frame.proofs.Answered.{answer_taken as frame-taken, answer_refused as Frame-refused}
+use Rattle.frame.proofs.Answered.{answer_taken as frame_taken, answer_refused as frame_refused}
 use Rattle.frame.proofs.Rule.{follows, follows_heights, row_by_row}
 use Rattle.selection.specs.Selected.{marks_after, heights_after}
-use Rattle.selection.specs.Selected.{answer_of as selectionAnswer}
+use Rattle.selection.specs.Selected.{answer_of as selection_answer}
 use Rattle.selection.specs.declared.Selected.{Selected}
 use Rattle.selection.proofs.Answered.{marks_taken}
-use Rattle.selection.proofs.Answered.{answer_refusal as selection-refusal}
+use Rattle.selection.proofs.Answered.{answer_refusal as selection_refusal}
 use Rattle.mesh.specs.Meshed.{entries_each, written_over, Meshes}
 use Rattle.mesh.specs.Meshed.{handed as meshing}
 use Rattle.mesh.specs.declared.Meshed.{Meshed}
@@ -51,16 +51,16 @@ module _ {input places : List ℕ} (room : Roomy places) {r : Meshed} {places' :
         untouched = s.written ∙ ap (λ l. written_over l places) (places_refused input other);
       }
 
-  module _ (ok : formRefusal input ≡ accepted) where
+  module _ (ok : form_refusal input ≡ accepted) where
     -- the frame, and selection of it
     abbrev frame : Frame
     frame = answering accepted (size_in input) (tolerance_in input)
 
     abbrev answer : Selected
-    answer = selectionAnswer (selected input)
+    answer = selection_answer (selected input)
 
     carried : Follows input frame
-    carried = (follows input).0 (sym (frame-taken input ok))
+    carried = (follows input).0 (sym (frame_taken input ok))
 
     selecting : Selecting input frame answer (marks_after (selected input))
     selecting =
@@ -77,32 +77,32 @@ module _ {input places : List ℕ} (room : Roomy places) {r : Meshed} {places' :
         }
 
     number_selection : refusal input ≡ answer.refusal
-    number_selection = refusal_selection input ok ∙ sym (selection-refusal (selected input))
+    number_selection = refusal_selection input ok ∙ sym (selection_refusal (selected input))
 
     past : Dec (answer.refusal ≡ accepted) → Runs input places r places'
     past (no n) = selection carried refl selecting n (refuses number_selection n)
     past (yes e) =
-        let marked = marks_taken (selected input) (sym (selection-refusal (selected input)) ∙ e) in
+        let marked = marks_taken (selected input) (sym (selection_refusal (selected input)) ∙ e) in
         let whole = lists_meshes input places room (number_selection ∙ e) s in
         triangles carried refl selecting e (subst (λ marks. Meshes (meshing marks (size_in input) places) r places') (sym marked) whole)
 
   pub lists_runs : Runs input places r places'
-  lists_runs = by (ℕ_discrete (formRefusal input) accepted)
+  lists_runs = by (ℕ_discrete (form_refusal input) accepted)
     where
-      by : Dec (formRefusal input ≡ accepted) → Runs input places r places'
-      by (yes ok) = past ok (ℕ_discrete (selectionAnswer (selected input)).refusal accepted)
-      by (no n) = form ((follows input).0 (sym (Frame-refused input n))) n (refuses (refusal_form input n) n)
+      by : Dec (form_refusal input ≡ accepted) → Runs input places r places'
+      by (yes ok) = past ok (ℕ_discrete (selection_answer (selected input)).refusal accepted)
+      by (no n) = form ((follows input).0 (sym (frame_refused input n))) n (refuses (refusal_form input n) n)
 
 -- and whatever follows them is listed: the code's own steps are such a run, so the laws of its steps serve here too
 module _ {input : List ℕ} {f : Frame} (k : Follows input f) where
-  given : f.refusal ≡ formRefusal input
+  given : f.refusal ≡ form_refusal input
   given = turned_only input k.turned
 
   module _ (e : f.refusal ≡ accepted) {a : Selected} {marks' : List ℕ} (c : Selecting input f a marks') where
     ready : Ready input f.m f.tolerance c.survey c.marks c.heights
     ready =
         let ok = sym given ∙ e in
-        let taken = (follows input).1 k ∙ frame-taken input ok in
+        let taken = (follows input).1 k ∙ frame_taken input ok in
         let size : f.m ≡ size_in input = ap (λ (f : Frame). f.m) taken in
         record {
           accepts = ok;
@@ -141,7 +141,7 @@ runs room = (lists_runs room, runs_lists room)
 -- what is printed of two runs is the same, whatever their places held
 pub runs_alike : {input a b : List ℕ} → Roomy a → Roomy b → {r s : Meshed} {a' b' : List ℕ} → Runs input a r a' → Runs input b s b' →
     text_of r a' ≡ text_of s b'
-runs_alike roomA roomB p q = text_listed roomA (runs_lists roomA p) ∙ sym (text_listed roomB (runs_lists roomB q))
+runs_alike room_a room_b p q = text_listed room_a (runs_lists room_a p) ∙ sym (text_listed room_b (runs_lists room_b q))
 
 -- every input shows its text, whatever places with room held before
 pub text_shows_over : (input places : List ℕ) → Roomy places → Shows input (text_in input)

@@ -16,10 +16,10 @@ use Rattle.frame.proofs.Answered.{survey_taken}
 use Rattle.selection.specs.Error.{over}
 use Rattle.selection.specs.Marks.{marks_of}
 use Rattle.selection.specs.Selected.{Handed as Selecting, marks_by, Selects}
-use Rattle.selection.specs.Selected.{handed as selecting, refusal as selectionRefusal}
+use Rattle.selection.specs.Selected.{handed as selecting, refusal as selection_refusal}
 use Rattle.selection.specs.declared.Selected.{Selected}
 use Rattle.selection.proofs.Answered.{marks_taken}
-use Rattle.selection.proofs.Answered.{answer_refusal as selection-refusal}
+use Rattle.selection.proofs.Answered.{answer_refusal as selection_refusal_lem}
 use Rattle.mesh.specs.Meshed.{Meshes, written_over}
 use Rattle.mesh.specs.Meshed.{Handed as Meshing}
 use Rattle.mesh.specs.Meshed.{handed as meshing}
@@ -49,8 +49,8 @@ module _ (input places : List ℕ) where
 
 -- selection refuses by the lengths of its buffers alone
 by_lengths : (h : Selecting) (marks : List ℕ) (heights : List ℤ) → length h.marks ≡ length marks → length h.heights ≡ length heights →
-    selectionRefusal h ≡ selectionRefusal (selecting h.survey h.m h.tolerance marks heights)
-unfolding selectionRefusal
+    selection_refusal h ≡ selection_refusal (selecting h.survey h.m h.tolerance marks heights)
+unfolding selection_refusal
 by_lengths h marks heights e f = rw (e, f)
 
 -- what the code was handed, and what it was told: the survey by `heights`, and the rest by `select`
@@ -64,10 +64,10 @@ module _ {input : List ℕ} {m tolerance : ℕ} {survey : List ℤ} {marks : Lis
       s.survey ∙ survey_taken h (sym ok)
 
   -- selection of the same survey, with buffers as long
-  same : selectionRefusal (selecting survey' m tolerance marks heights) ≡ refusal input
+  same : selection_refusal (selecting survey' m tolerance marks heights) ≡ refusal input
   same =
       let many : samples m ≡ samples (size_in input) = ap samples k.size in
-      (λ i. selectionRefusal (selecting (surveyed i) (k.size i) (k.tolerated i) marks heights))
+      (λ i. selection_refusal (selecting (surveyed i) (k.size i) (k.tolerated i) marks heights))
       ∙ by_lengths (selecting (survey_in input) (size_in input) (tolerance_in input) marks heights) _ _
       (k.marks_long ∙ many ∙ sym (length-replicate (samples (size_in input)) 0))
       (k.heights_long ∙ many ∙ sym (length-replicate (samples (size_in input)) (pos 0)))
@@ -76,7 +76,7 @@ module _ {input : List ℕ} {m tolerance : ℕ} {survey : List ℤ} {marks : Lis
   module _ {a : Selected} {marks' : List ℕ} {heights' : List ℤ}
       (t : Selects (selecting survey' m tolerance marks heights) a marks' heights') where
     number : a.refusal ≡ refusal input
-    number = ap (λ (a : Selected). a.refusal) t.answer ∙ selection-refusal (selecting survey' m tolerance marks heights) ∙ same
+    number = ap (λ (a : Selected). a.refusal) t.answer ∙ selection_refusal_lem (selecting survey' m tolerance marks heights) ∙ same
 
     pub refused_in : (places : List ℕ) {r : Meshed} → a.refusal ≢ accepted → r ≡ turned_down a.refusal → Lists input places r places
     refused_in places other e = lists_refused input places number other e

@@ -5,9 +5,9 @@ use Rattle.grid.specs.Grid.{samples}
 use Rattle.grid.specs.Refusal.{accepted}
 use Rattle.grid.specs.declared.points.Point.{Point}
 use Rattle.frame.specs.Frame.{size_in, tolerance_in, survey_in}
-use Rattle.frame.specs.Frame.{refusal as formRefusal}
+use Rattle.frame.specs.Frame.{refusal as form_refusal}
 use Rattle.selection.specs.Selected.{Handed as Selecting, marks_by}
-use Rattle.selection.specs.Selected.{handed as selecting, refusal as selectionRefusal}
+use Rattle.selection.specs.Selected.{handed as selecting, refusal as selection_refusal}
 use Rattle.mesh.specs.Closed.{kept_by}
 use Rattle.mesh.specs.Triangles.{mesh, places_of, number}
 use Rattle.mesh.specs.declared.Meshed.{Meshed}
@@ -20,7 +20,7 @@ selected input =
 
 -- the input's own refusals, then selection's own; or no refusal
 unfoldable pub refusal : List ℕ → ℕ
-refusal input = cond (eqb (formRefusal input) accepted) (selectionRefusal (selected input)) (formRefusal input)
+refusal input = cond (eqb (form_refusal input) accepted) (selection_refusal (selected input)) (form_refusal input)
 
 -- the points that selection keeps, by the marks that it writes
 abbrev pub kept_in : List ℕ → Point → Bool

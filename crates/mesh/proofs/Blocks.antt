@@ -63,10 +63,10 @@ module _ (w : Point → ℕ) where
       let y' = y + 2 ^ j in
       let i : x'' ≡ x' + 2 ^ j = omega arith in
       let h : y'' ≡ y' + 2 ^ j = omega arith in
-      let southWest = block j x x' y y' refl refl in
-      let southEast = block j x' x'' y y' i refl in
-      let northEast = block j x' x'' y' y'' i h in
-      let northWest = block j x x' y' y'' refl h in
+      let south_west = block j x x' y y' refl refl in
+      let south_east = block j x' x'' y y' i refl in
+      let north_east = block j x' x'' y' y'' i h in
+      let north_west = block j x x' y' y'' refl h in
       let south : Halfway (at x' y) (at x y) (at x'' y) = omega arith in
       let east : Halfway (at x'' y') (at x'' y) (at x'' y'') = omega arith in
       let north : Halfway (at x' y'') (at x'' y'') (at x y'') = omega arith in

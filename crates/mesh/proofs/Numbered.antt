@@ -58,9 +58,9 @@ length_either true ts us w = length-append ts us
 length_either false ts us w = refl
 
 -- by the three tests: twice the document's count of a point is what the cells around it see of it
-counted : (kept outX outY : Bool) →
-    2 * (2 * cond (kept && not (outX || outY)) 1 0 + cond (kept && ((outX || outY) && not (outX && outY))) 1 0)
-    ≡ touched outY (touched outX (cond (kept && not (outX && outY)) 1 0))
+counted : (kept out_x out_y : Bool) →
+    2 * (2 * cond (kept && not (out_x || out_y)) 1 0 + cond (kept && ((out_x || out_y) && not (out_x && out_y))) 1 0)
+    ≡ touched out_y (touched out_x (cond (kept && not (out_x && out_y)) 1 0))
 counted false true true = refl
 counted false true false = refl
 counted false false true = refl

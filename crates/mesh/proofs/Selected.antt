@@ -14,7 +14,7 @@ use Rattle.grid.specs.Sizes.{size_of}
 use Rattle.selection.specs.Selected.{Handed, Selects}
 use Rattle.selection.specs.Rule.{Closed}
 use Rattle.selection.specs.declared.Selected.{Selected}
-use Rattle.selection.proofs.Accepted.{accepted_handed, turned_only as selected-only}
+use Rattle.selection.proofs.Accepted.{accepted_handed, turned_only as selected_only}
 use Rattle.selection.proofs.Rule.{turned_down_lem, selection}
 use Rattle.mesh.specs.Closed.{kept_by}
 use Rattle.mesh.specs.Meshed.{handed, entries_each, needed, refusal}
@@ -25,7 +25,7 @@ use Rattle.mesh.proofs.Numbered.{number_triangles, mesh_most}
 module _ {h : Handed} {r : Selected} {marks : List ℕ} {heights : List ℤ} (s : Selects h r marks heights) (ok : r.refusal ≡ accepted)
     (places : List ℕ) where
   selected_small : h.m ≤ largest
-  selected_small = (accepted_handed h (sym (selected-only h (turned_down_lem s)) ∙ ok)).small
+  selected_small = (accepted_handed h (sym (selected_only h (turned_down_lem s)) ∙ ok)).small
 
   selected_good : Good (handed marks h.m places)
   selected_good = (selection s ok).good

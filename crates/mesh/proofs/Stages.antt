@@ -5,7 +5,7 @@ use mathlib.Core.Bool.{Bool}
 use Prim.Native.Nat.{ℕ, zero, suc, ◌+◌, ◌*◌}
 use native.Mathlib.Omega.{arith}
 use Rattle.grid.specs.Grid.{midpoint}
-use Rattle.grid.specs.Hierarchy.{Triangle, first as first_of, second as second_of, first_half as firstHalfOf, second_half as secondHalfOf, Stage, Apex}
+use Rattle.grid.specs.Hierarchy.{Triangle, first as first_of, second as second_of, first_half as first_half_of, second_half as second_half_of, Stage, Apex}
 use Rattle.grid.specs.declared.points.Point.{Point}
 use Rattle.grid.proofs.Cutting.{cut, stage}
 use Rattle.grid.proofs.Parity.{even_false, odd_true}
@@ -39,10 +39,10 @@ module _ {m : ℕ} {kept : Point → Bool} where
   of_hierarchy second = record { left = 2 * m; all = omega arith; triangle = second_of }
   of_hierarchy (first_half {l = l} {a = a} t h) =
       let w = cut_at (of_hierarchy t) h in
-      record { left = w.left; all = omega (arith, w.all); triangle = subst (λ (d : Point). Triangle m w.left l d a) w.is (firstHalfOf w.triangle) }
+      record { left = w.left; all = omega (arith, w.all); triangle = subst (λ (d : Point). Triangle m w.left l d a) w.is (first_half_of w.triangle) }
   of_hierarchy (second_half {a = a} {r = r} t h) =
       let w = cut_at (of_hierarchy t) h in
-      record { left = w.left; all = omega (arith, w.all); triangle = subst (λ (d : Point). Triangle m w.left a d r) w.is (secondHalfOf w.triangle) }
+      record { left = w.left; all = omega (arith, w.all); triangle = subst (λ (d : Point). Triangle m w.left a d r) w.is (second_half_of w.triangle) }
 
   -- so, of cuts that follow one another, every second one is at a block centre: after an even number of cuts. (Cuts made and left are 2m
   -- in all, so behind this cut the number left is odd just where the number made is even.)

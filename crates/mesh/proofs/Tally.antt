@@ -24,9 +24,9 @@ use Rattle.mesh.specs.Inner.{Plain, kept_place, kept_once, kept_from, kept_betwe
 use Rattle.mesh.proofs.Trapezoid.{sum_split, touched, touched_sum, not_outermost}
 
 -- by the three tests: a kept point adds 1 for each way in which it is not outermost
-tests : (kept outX outY : Bool) →
-    2 * cond (kept && not (outX || outY)) 1 0 + cond (kept && ((outX || outY) && not (outX && outY))) 1 0
-    ≡ cond outX 0 (cond kept 1 0) + cond outY 0 (cond kept 1 0)
+tests : (kept out_x out_y : Bool) →
+    2 * cond (kept && not (out_x || out_y)) 1 0 + cond (kept && ((out_x || out_y) && not (out_x && out_y))) 1 0
+    ≡ cond out_x 0 (cond kept 1 0) + cond out_y 0 (cond kept 1 0)
 tests false true true = refl
 tests false true false = refl
 tests false false true = refl

@@ -7,7 +7,7 @@ use lib.IntN.{ℤ}
 use Rattle.grid.specs.declared.Grid.{Grid}
 use Rattle.grid.specs.declared.points.Point.{Point}
 use Rattle.grid.specs.declared.sizes.SizeAnswer.{SizeAnswer}
-use Rattle.grid.proofs.sizes.size_of.Reads as type_size
+use Rattle.grid.proofs.sizes.size_of.Reads as size_of
 use Rattle.selection.specs.declared.Selected.{Selected}
 use Rattle.selection.proofs.select.Reads as select
 use Rattle.mesh.specs.declared.Meshed.{Meshed}
@@ -19,30 +19,30 @@ use Rattle.aim.specs.declared.PlaneAnswer.{PlaneAnswer}
 use Rattle.aim.proofs.height.Reads as height
 use Rattle.aim.proofs.plane.Reads as plane
 use Rattle.head.specs.declared.Crossed.{Crossed}
-use Rattle.head.proofs.mosskirtle_select.Reads as c-select
-use Rattle.head.proofs.mosskirtle_triangles.Reads as c-triangles
-use Rattle.head.proofs.mosskirtle_strip.Reads as c-strip
-use Rattle.head.proofs.mosskirtle_height.Reads as c-height
-use Rattle.head.proofs.mosskirtle_plane.Reads as c-plane
+use Rattle.head.proofs.mosskirtle_select.Reads as c_select
+use Rattle.head.proofs.mosskirtle_triangles.Reads as c_triangles
+use Rattle.head.proofs.mosskirtle_strip.Reads as c_strip
+use Rattle.head.proofs.mosskirtle_height.Reads as c_height
+use Rattle.head.proofs.mosskirtle_plane.Reads as c_plane
 use Rattle.frame.specs.declared.Frame.{Frame}
 use Rattle.frame.proofs.read.Reads as read
 use Rattle.frame.proofs.heights.Reads as heights
 use Rattle.listing.proofs.text_of.Reads as text_of
-use Rattle.grid.proofs.sizes.grid_of.Reads as grid-of
+use Rattle.grid.proofs.sizes.grid_of.Reads as grid_of
 use Rattle.grid.proofs.Grid.place.Reads as place
 use Rattle.grid.proofs.Grid.point.Reads as point
 use Rattle.grid.proofs.Grid.midpoint.Reads as midpoint
-use Rattle.grid.proofs.Grid.in_quarters.Reads as in-quarters
-use Rattle.grid.proofs.Grid.is_void.Reads as is-void
+use Rattle.grid.proofs.Grid.in_quarters.Reads as in_quarters
+use Rattle.grid.proofs.Grid.is_void.Reads as is_void
 use Rattle.grid.proofs.Grid.raised.Reads as raised
 use Rattle.grid.proofs.Grid.lowered.Reads as lowered
 use Rattle.grid.proofs.marks.good.Reads as good
 use Rattle.grid.proofs.marks.kept.Reads as kept
 use Rattle.grid.proofs.marks.keeps.Reads as keeps
 use Rattle.grid.proofs.marks.filled.Reads as filled
-use Rattle.grid.proofs.points.reach_at.Reads as reach-at
+use Rattle.grid.proofs.points.reach_at.Reads as reach_at
 use Rattle.grid.proofs.points.reach_of.Reads as reach_of
-use Rattle.mesh.proofs.good.corners_good.Reads as corners-good
+use Rattle.mesh.proofs.good.corners_good.Reads as corners_good
 use Rattle.mesh.proofs.cut.is_cut.Reads as is_cut
 use Rattle.survey.proofs.fill.Reads as fill
 use Rattle.settled.specs.Unique.{SameSelection, SameTriangles, SameStrip, SameSurvey, SameText}
@@ -77,26 +77,26 @@ pub text_of_once : (k : _) (a : _) (r r' : ℕ) (o o' : _) → text_of.Learnt k 
     SameText r r' o.1.0.now o'.1.0.now
 text_of_once k a r r' o o' p q = no_second.text _ _ r r' _ _ p q
 
-pub size_of_once : (k : _) (a : _) (r r' : SizeAnswer) (o o' : _) → type_size.Learnt k a r o → type_size.Learnt k a r' o' → r ≡ r'
+pub size_of_once : (k : _) (a : _) (r r' : SizeAnswer) (o o' : _) → size_of.Learnt k a r o → size_of.Learnt k a r' o' → r ≡ r'
 size_of_once k a r r' o o' p q = no_second.size a.0 r r' p q
 
 -- C's calls
-pub c_select_once : (k : _) (a : _) (r r' : Selected) (o o' : _) → c-select.Learnt k a r o → c-select.Learnt k a r' o' →
+pub c_select_once : (k : _) (a : _) (r r' : Selected) (o o' : _) → c_select.Learnt k a r o → c_select.Learnt k a r' o' →
     SameSelection r r' o.1.1.1.0.now o'.1.1.1.0.now o.1.1.1.1.0.now o'.1.1.1.1.0.now
 c_select_once k a r r' o o' p q = no_second.select _ r r' _ _ _ _ p.selects q.selects
 
-pub c_triangles_once : (k : _) (a : _) (r r' : Meshed) (o o' : _) → c-triangles.Learnt k a r o → c-triangles.Learnt k a r' o' →
+pub c_triangles_once : (k : _) (a : _) (r r' : Meshed) (o o' : _) → c_triangles.Learnt k a r o → c_triangles.Learnt k a r' o' →
     SameTriangles r r' o.1.1.0.now o'.1.1.0.now
 c_triangles_once k a r r' o o' p q = no_second.triangles _ r r' _ _ p q
 
-pub c_strip_once : (k : _) (a : _) (r r' : Stripped) (o o' : _) → c-strip.Learnt k a r o → c-strip.Learnt k a r' o' →
+pub c_strip_once : (k : _) (a : _) (r r' : Stripped) (o o' : _) → c_strip.Learnt k a r o → c_strip.Learnt k a r' o' →
     SameStrip r r' o.1.1.0.now o'.1.1.0.now
 c_strip_once k a r r' o o' p q = no_second.strip _ r r' _ _ p q
 
-pub c_height_once : (k : _) (a : _) (r r' : Crossed) (o o' : _) → c-height.Learnt k a r o → c-height.Learnt k a r' o' → r ≡ r'
+pub c_height_once : (k : _) (a : _) (r r' : Crossed) (o o' : _) → c_height.Learnt k a r o → c_height.Learnt k a r' o' → r ≡ r'
 c_height_once k a r r' o o' p q = no_second.crossing _ r r' p.answer q.answer
 
-pub c_plane_once : (k : _) (a : _) (r r' : PlaneAnswer) (o o' : _) → c-plane.Learnt k a r o → c-plane.Learnt k a r' o' → r ≡ r'
+pub c_plane_once : (k : _) (a : _) (r r' : PlaneAnswer) (o o' : _) → c_plane.Learnt k a r o → c_plane.Learnt k a r' o' → r ≡ r'
 c_plane_once k a r r' o o' p q = no_second.plane _ r r' p.answer q.answer
 
 -- The functions that one crate calls of another: all promise equations, so two results are equal to the same third.
@@ -106,7 +106,7 @@ same p q = p ∙ sym q
 pub fill_once : (k : _) (a : _) (r r' : _) (o o' : _) → fill.Learnt k a r o → fill.Learnt k a r' o' → o.1.1.0.now ≡ o'.1.1.0.now
 fill_once k a r r' o o' p q = same p.is q.is
 
-pub grid_of_once : (k : _) (a : _) (r r' : Grid) (o o' : _) → grid-of.Learnt k a r o → grid-of.Learnt k a r' o' → r ≡ r'
+pub grid_of_once : (k : _) (a : _) (r r' : Grid) (o o' : _) → grid_of.Learnt k a r o → grid_of.Learnt k a r' o' → r ≡ r'
 grid_of_once k a r r' o o' p q = same p q
 
 pub place_once : (k : _) (a : _) (r r' : ℕ) (o o' : _) → place.Learnt k a r o → place.Learnt k a r' o' → r ≡ r'
@@ -118,10 +118,10 @@ point_once k a r r' o o' p q = same p q
 pub midpoint_once : (k : _) (a : _) (r r' : ℕ) (o o' : _) → midpoint.Learnt k a r o → midpoint.Learnt k a r' o' → r ≡ r'
 midpoint_once k a r r' o o' p q = same p q
 
-pub in_quarters_once : (k : _) (a : _) (r r' : ℕ) (o o' : _) → in-quarters.Learnt k a r o → in-quarters.Learnt k a r' o' → r ≡ r'
+pub in_quarters_once : (k : _) (a : _) (r r' : ℕ) (o o' : _) → in_quarters.Learnt k a r o → in_quarters.Learnt k a r' o' → r ≡ r'
 in_quarters_once k a r r' o o' p q = same p q
 
-pub is_void_once : (k : _) (a : _) (r r' : Bool) (o o' : _) → is-void.Learnt k a r o → is-void.Learnt k a r' o' → r ≡ r'
+pub is_void_once : (k : _) (a : _) (r r' : Bool) (o o' : _) → is_void.Learnt k a r o → is_void.Learnt k a r' o' → r ≡ r'
 is_void_once k a r r' o o' p q = same p q
 
 pub raised_once : (k : _) (a : _) (r r' : ℕ) (o o' : _) → raised.Learnt k a r o → raised.Learnt k a r' o' → r ≡ r'
@@ -142,13 +142,13 @@ keeps_once k a r r' o o' p q = same p q
 pub filled_once : (k : _) (a : _) (r r' : Bool) (o o' : _) → filled.Learnt k a r o → filled.Learnt k a r' o' → r ≡ r'
 filled_once k a r r' o o' p q = same p q
 
-pub reach_at_once : (k : _) (a : _) (r r' : ℕ) (o o' : _) → reach-at.Learnt k a r o → reach-at.Learnt k a r' o' → r ≡ r'
+pub reach_at_once : (k : _) (a : _) (r r' : ℕ) (o o' : _) → reach_at.Learnt k a r o → reach_at.Learnt k a r' o' → r ≡ r'
 reach_at_once k a r r' o o' p q = same p q
 
 pub reach_of_once : (k : _) (a : _) (r r' : ℕ) (o o' : _) → reach_of.Learnt k a r o → reach_of.Learnt k a r' o' → r ≡ r'
 reach_of_once k a r r' o o' p q = same p q
 
-pub corners_good_once : (k : _) (a : _) (r r' : Bool) (o o' : _) → corners-good.Learnt k a r o → corners-good.Learnt k a r' o' → r ≡ r'
+pub corners_good_once : (k : _) (a : _) (r r' : Bool) (o o' : _) → corners_good.Learnt k a r o → corners_good.Learnt k a r' o' → r ≡ r'
 corners_good_once k a r r' o o' p q = same p q
 
 pub is_cut_once : (k : _) (a : _) (r r' : Bool) (o o' : _) → is_cut.Learnt k a r o → is_cut.Learnt k a r' o' → r ≡ r'

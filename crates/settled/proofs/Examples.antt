@@ -6,7 +6,7 @@ use Prim.Native.Nat.{ℕ, zero, suc, ◌^◌, ◌<◌}
 use native.Mathlib.Omega.{arith}
 use lib.IntN.{ℤ, pos, nat_abs}
 use lib.Signed.{mag}
-use lib.Ieee.{prec, to_bits, size, span, climb, odd, units as floatUnits, round}
+use lib.Ieee.{prec, to_bits, size, span, climb, odd, units as float_units, round}
 use borrow.Author.Tests.{le-ltb}
 use Rattle.grid.specs.Grid.{place, point, on_grid, midpoint}
 use Rattle.grid.specs.Points.{level, spacing, units, is_corner, kind, ends, depends_on, dependents}
@@ -15,18 +15,18 @@ use Rattle.survey.specs.Rule.{Sixteen}
 use Rattle.selection.specs.Error.{error_by, exceeding}
 use Rattle.selection.specs.Kept.{chain, kept}
 use Rattle.selection.specs.Marks.{mark, marks_of}
-use Rattle.selection.specs.Selected.{highest_tolerance, corner_void, refusal as selectionRefusal, answer_of as selectionAnswer}
+use Rattle.selection.specs.Selected.{highest_tolerance, corner_void, refusal as selection_refusal, answer_of as selection_answer}
 use Rattle.selection.specs.Selected.{marks_after, heights_after}
 use Rattle.mesh.specs.Triangles.{uncut, mesh, number}
 use Rattle.mesh.specs.Closed.{good_marks, supported, closed}
-use Rattle.mesh.specs.Meshed.{refusal as meshRefusal, answer_of as meshAnswer, places_after}
+use Rattle.mesh.specs.Meshed.{refusal as mesh_refusal, answer_of as mesh_answer, places_after}
 use Rattle.aim.specs.Quotient.{format, quotient}
 use Rattle.aim.specs.Walk.{start, half, walk, met}
-use Rattle.aim.specs.Aimed.{ended, looked, refusal as aimRefusal, weighted, height_in, is_filled, height_at, eastward, northward, ground_in, plane_at}
+use Rattle.aim.specs.Aimed.{ended, looked, refusal as aim_refusal, weighted, height_in, is_filled, height_at, eastward, northward, ground_in, plane_at}
 use Rattle.aim.proofs.Exactness.{exactly}
 use Rattle.surface.proofs.Surface.{one_surface}
 use Rattle.listing.proofs.Values.{sample_text_lem}
-use Rattle.strip.specs.Stripped.{refusal as stripRefusal, answer_of as stripAnswer, places_after as stripPlaces}
+use Rattle.strip.specs.Stripped.{refusal as strip_refusal, answer_of as strip_answer, places_after as strip_places}
 use Rattle.settled.specs.Examples.{minus, grid_q, nines, select, FloatIs, Settled}
 
 -- a whole number of at most 24 binary digits, divided by a power of two that is small enough, and its bits
@@ -49,11 +49,11 @@ small_q : Sixteen grid_q
 small_q = sixteen grid_q (omega arith)
 
 pub settled : Settled
-unfolding selectionAnswer selectionRefusal marks_after heights_after corner_void marks_of mark kept chain exceeding error_by filled height_of height_by
+unfolding selection_answer selection_refusal marks_after heights_after corner_void marks_of mark kept chain exceeding error_by filled height_of height_by
     sample on_grid place point midpoint ends depends_on dependents kind units spacing level is_corner
-    meshAnswer meshRefusal places_after good_marks closed supported number mesh uncut
-    stripAnswer stripRefusal stripPlaces height_at plane_at aimRefusal ended looked start half walk met weighted height_in is_filled ground_in eastward northward
-    quotient round floatUnits odd size span climb to_bits
+    mesh_answer mesh_refusal places_after good_marks closed supported number mesh uncut
+    strip_answer strip_refusal strip_places height_at plane_at aim_refusal ended looked start half walk met weighted height_in is_filled ground_in eastward northward
+    quotient round float_units odd size span climb to_bits
 settled = record {
   one_selection =
       λ height t known low.

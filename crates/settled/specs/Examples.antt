@@ -106,11 +106,11 @@ pub record HeightIs (h : Asking) (answer : Float → HeightAnswer) (z : ℤ) (d 
   pub height : FloatIs z d word value
 
 -- plane is answered: the height, the slope east and the slope north, whole numbers here, each with its float's bits
-pub record PlaneIs (h : Asking) (z : ℤ) (word : ℕ) (e : ℤ) (eastWord : ℕ) (n : ℤ) (northWord : ℕ) : Type 0 where
+pub record PlaneIs (h : Asking) (z : ℤ) (word : ℕ) (e : ℤ) (east_word : ℕ) (n : ℤ) (north_word : ℕ) : Type 0 where
   pub accepts : (plane_at h).refusal ≡ accepted
   pub height : FloatIs z 1 word (plane_at h).ground.height
-  pub east : FloatIs e 1 eastWord (plane_at h).ground.east
-  pub north : FloatIs n 1 northWord (plane_at h).ground.north
+  pub east : FloatIs e 1 east_word (plane_at h).ground.east
+  pub north : FloatIs n 1 north_word (plane_at h).ground.north
 
 -- plane is refused: three floats of plus zero
 abbrev pub plane_refused : ℕ → PlaneAnswer

@@ -14,11 +14,11 @@ use Rattle.grid.specs.Refusal.{accepted, size_above, wrong_length, bad_mark, not
 use Rattle.selection.specs.Rule.{Closed}
 use Rattle.mesh.specs.Triangles.{Three, mesh}
 use Rattle.mesh.specs.Closed.{good_marks, closed}
-use Rattle.mesh.specs.Meshed.{Handed, kept_of, needed, no_room_for, refusal as refusalBefore}
+use Rattle.mesh.specs.Meshed.{Handed, kept_of, needed, no_room_for, refusal as refusal_before}
 use Rattle.mesh.specs.Rule.{Kept, Turned as TurnedDown, size, buffer, mark, unclosed, room as short, nothing as enough}
 use Rattle.mesh.proofs.Leads.{mesh_is, mesh_only}
 use Rattle.mesh.proofs.Closing.{good_marks_lem, closed_set}
-use Rattle.mesh.proofs.Accepted.{turned as turned_down_lem, turned_only as turned-down-only}
+use Rattle.mesh.proofs.Accepted.{turned as turned_down_lem, turned_only as turned_down_only}
 use Rattle.strip.specs.Strip.{placed, strip_of}
 use Rattle.strip.specs.Stripped.{strip, refusal}
 use Rattle.strip.specs.Rule.{StripOf, Taken, Turned, as_triangles, room, nothing}
@@ -51,9 +51,9 @@ module _ (h : Handed) where
 
   -- turned down before the room is asked for, as triangles does
   pub refused_early : {n : ℕ} → TurnedDown h n → n ≢ no_room → n ≢ accepted → n ≡ refusal h
-  unfolding refusal refusalBefore
+  unfolding refusal refusal_before
   refused_early t p q =
-      let e = turned-down-only h t in
+      let e = turned_down_only h t in
       e
       ∙ early (ltb largest h.m) (eqb (length h.marks) (samples h.m)) (good_marks h.m h.marks) (closed h.m (kept_of h))
       (no_room_for (needed h) (length h.places)) (ltb (length h.places) (length (strip h))) (λ k. p (e ∙ k)) (λ k. q (e ∙ k))

@@ -19,7 +19,7 @@ use Rattle.mesh.specs.Triangles.{mesh, number}
 use Rattle.mesh.specs.Closed.{good_marks, closed}
 use Rattle.mesh.specs.Inner.{Plain, kept_place}
 use Rattle.mesh.specs.Meshed.{Handed, handed, needed, kept_of, written_over}
-use Rattle.mesh.specs.Meshed.{refusal as meshRefusal}
+use Rattle.mesh.specs.Meshed.{refusal as mesh_refusal}
 use Rattle.mesh.specs.Rule.{Good, Kept, Turned, size, buffer, mark, unclosed, room, nothing}
 use Rattle.mesh.proofs.Accepted.{turned, made_only, refuted}
 use Rattle.mesh.proofs.Numbered.{number_triangles}
@@ -160,7 +160,7 @@ module _ (h : Handed) where
   abbrev pub asked : Handed
   asked = handed h.marks h.m (0 ∷ [])
 
-  pub shut : meshRefusal asked ≡ no_room → Shut h
+  pub shut : mesh_refusal asked ≡ no_room → Shut h
   shut e = by (turned asked) e
     where
       by : {n : ℕ} → Turned asked n → n ≡ no_room → Shut h
@@ -171,7 +171,7 @@ module _ (h : Handed) where
       by (room s l g k w r) e = record { small = s; long = l; good = g; closed = k }
       by (nothing s l g k w r) e = absurd (omega arith)
 
-  pub turned_down_lem : meshRefusal asked ≢ no_room → answering (meshRefusal asked) 0 ≡ answer_of h
+  pub turned_down_lem : mesh_refusal asked ≢ no_room → answering (mesh_refusal asked) 0 ≡ answer_of h
   unfolding refusal
   turned_down_lem other = by (turned asked) other
     where

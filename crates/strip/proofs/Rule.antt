@@ -18,7 +18,7 @@ use Rattle.mesh.specs.Meshed.{Handed, handed, kept_of, entries_each, written_ove
 use Rattle.mesh.specs.Rule.{Kept}
 use Rattle.mesh.specs.declared.Meshed.{Meshed}
 use Rattle.mesh.proofs.Leads.{mesh_only}
-use Rattle.mesh.proofs.Rule.{follows as follows-list}
+use Rattle.mesh.proofs.Rule.{follows as follows_list}
 use Rattle.mesh.proofs.Written.{places_long}
 use Rattle.strip.specs.Strip.{Corners, corners, placed}
 use Rattle.strip.specs.Reading.{AllAlike, read_strip, threes}
@@ -117,7 +117,7 @@ beside : {h : Handed} {r : Stripped} {places' : List ℕ} (lent : List ℕ) {n :
     AllAlike (read_strip (take r.places places')) (threes (take (3 * n.triangles) list)) × (length (take r.places places') ≤ 2 * n.triangles)
 beside {h} {r} {places'} lent {n} {list} s e w f =
     let o = one s e in
-    let k = (follows-list.0 w).meshed f in
+    let k = (follows_list.0 w).meshed f in
     let ts : List Three = k.triangles in
     let same : ts ≡ mesh h.m (kept_of h) = mesh_only h.m (kept_of h) k.uncut in
     let entries : length (places_of h.m ts) ≡ 3 * n.triangles = places_long h.m ts ∙ ap (λ (i : ℕ). 3 * i) (sym k.answer) in

@@ -8,12 +8,12 @@ use Rattle.grid.specs.Refusal.{accepted}
 use Rattle.survey.specs.Rule.{Sixteen}
 use Rattle.selection.specs.Selected.{Handed as Surveying, refusal, answer_of, marks_after, heights_after}
 use Rattle.selection.proofs.Answered.{answer_refusal}
-use Rattle.mesh.specs.Meshed.{handed as drawing, entries_each, needed, answer_of as meshAnswer, places_after}
+use Rattle.mesh.specs.Meshed.{handed as drawing, entries_each, needed, answer_of as mesh_answer, places_after}
 use Rattle.surface.specs.Surface.{Called}
 
 pub called : (s : Surveying) → refusal s ≡ accepted → Sixteen s.survey → (places : List ℕ) →
     let d = drawing (marks_after s) s.m places in
-    entries_each * needed d ≤ length places → Called s (answer_of s) (marks_after s) (heights_after s) places (meshAnswer d) (places_after d)
+    entries_each * needed d ≤ length places → Called s (answer_of s) (marks_after s) (heights_after s) places (mesh_answer d) (places_after d)
 called s ok small places room = record {
   selects = record { selects = record { answer = refl; marks = refl; heights = refl }; sixteen = λ e. small };
   accepts = answer_refusal s ∙ ok;

@@ -28,7 +28,7 @@ use Rattle.mesh.proofs.Every.{in_at}
 use Rattle.mesh.proofs.Once.{Sides, sides}
 use Rattle.mesh.proofs.Pairs.{Pairs, nth, nth_in, nth_pairs}
 use Rattle.mesh.proofs.Rule.{AsRead, as_read, told}
-use Rattle.mesh.proofs.Rule as mesh-rule
+use Rattle.mesh.proofs.Rule as mesh_rule
 use Rattle.aim.specs.Aimed.{Handed, handed, ended, refusal, Said, said, height_at, plane_at, ground_in}
 use Rattle.aim.specs.Geometry.{OfSquare, Contains}
 use Rattle.aim.specs.declared.HeightAnswer.{HeightAnswer}
@@ -61,7 +61,7 @@ module _ {s : Surveying} {a : Selected} {marks : List ℕ} {heights : List ℤ} 
   ts = mesh s.m kept
 
   meshed : r.refusal ≡ accepted
-  meshed = (mesh-rule.selected selects c.accepts c.meshes).1 (omega (arith, c.room))
+  meshed = (mesh_rule.selected selects c.accepts c.meshes).1 (omega (arith, c.room))
 
   reading : AsRead (drawing marks s.m places) r places'
   reading = as_read c.meshes meshed
