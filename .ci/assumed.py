@@ -1,9 +1,11 @@
-"""What is assumed: by the libraries and the archive nothing, by a program the contracts of so many functions of the C library. `rt` counts these on the
-last line of a program and of the archive, over all crates below. On a library's it counts none, so of a library the code is looked at too."""
+"""What is assumed: by the libraries and the archive nothing, by a program the contracts of so many functions of the C
+library. `rt` counts these on the last line of a program and of the archive, over all crates below. On a library's
+it counts none, so of a library the code is looked at too."""
 import re
 
-# Of a program that is kept from an earlier run that line is not told. So the functions are also looked at that the built program may call: input and output and
-# their errors, yielding, what compilers call by themselves, and what begins and ends a program.
+# Of a program that is kept from an earlier run that line is not told. So the functions are also looked at that the
+# built program may call: input and output and their errors, yielding, what compilers call by themselves, and what
+# begins and ends a program.
 PROGRAMS = {"meshprint": 5, "show_selection": 3, "show_triangles": 3, "show_heights": 3, "show_frames": 3}
 CALLS = set("""read write lseek sched_yield __errno_location __xpg_strerror_r memcpy memmove memset memcmp
     __libc_start_main __gmon_start__ __cxa_finalize _ITM_deregisterTMCloneTable _ITM_registerTMCloneTable __sysv_signal __write __x86_get_cpuid_feature_leaf""".split())

@@ -1,5 +1,6 @@
-"""Must-fail edits: whether `rt` reads every line of one, and whether what `rt ci` tells of its refusal is a fact that failed. `rt ci` tells one line an edit: of
-what the check said the first message that names nothing which the edit took away, up to its 160th character. What lies behind that is not judged."""
+"""Must-fail edits: whether `rt` reads every line of one, and whether what `rt ci` tells of its refusal is a fact that
+failed. `rt ci` tells one line an edit: of what the check said the first message that names nothing which the edit
+took away, up to its 160th character. What lies behind that is not judged."""
 import re
 
 
@@ -35,7 +36,8 @@ def told_of_edits(log):
 # `rt ci` gives so much of a message.
 SHOWN = 160
 
-# What says that a proof, or an edit, does not fit the code: a name, a field or a form that is not there, or a proof that only rests on another.
+# What says that a proof, or an edit, does not fit the code: a name, a field or a form that is not there, or a proof
+# that only rests on another.
 SHAPE = re.compile(
     r"(?:^|^`[^`]*`: )(?:`[^`]*` is not in scope|expected an? |missing field)|that can be named from here|has no field|is no name|"
     r"was not (?:admitted|checked)|was rejected|were not checked|no clause covers|write the clause")

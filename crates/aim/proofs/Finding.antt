@@ -134,3 +134,7 @@ module _ (h : Handed) where
 
   pub finished_begun : finished h.m h.marks h.heights (begun h) ≡ found h
   finished_begun = begun_either (λ w. finished h.m h.marks h.heights w ≡ found h) (λ n is. is) found_walk
+
+  -- so what the code was told of a walk, by what it was told of its beginning
+  pub told : {b w : Walked} → b ≡ begun h → w ≡ finished h.m h.marks h.heights b → w ≡ found h
+  told e f = f ∙ ap (finished h.m h.marks h.heights) e ∙ finished_begun

@@ -71,6 +71,11 @@ pub record Halved (marks : List ℕ) (k l a r c at : ℕ) (buffer : List ℕ) : 
   pub is : is_cut (kept_place marks) k l r ≡ true
   pub room : at + length (cut_places (kept_place marks) k l a r) ≤ length buffer
 
+pub halved : {marks : List ℕ} {l a r c : ℕ} (k at : ℕ) (buffer : List ℕ) → Corners marks l a r → c ≡ midplace l r →
+    is_cut (kept_place marks) k l r ≡ true → at + length (cut_places (kept_place marks) k l a r) ≤ length buffer →
+    Halved marks k l a r c at buffer
+halved k at buffer corners middle is room = record { corners = corners; middle = middle; is = is; room = room }
+
 -- half i lies between corner i and the next
 abbrev pub corner : ℕ → ℕ → ℕ → ℕ → ℕ
 corner l a r i = get_or (l ∷ a ∷ r ∷ []) i 0

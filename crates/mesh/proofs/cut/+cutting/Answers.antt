@@ -1,22 +1,20 @@
 -- `mesh::cut::cut_at_centre` and `cut_at_edge` meet their contracts, by the number of cuts left.
 use mathlib.Core.Path.{sym, ◌∙◌}
 use native.Mathlib.Omega.{arith}
-use Rattle.mesh.proofs.Halves.{three_room, Halved, some_left, half_corners, half_room, odd_cut, odd_half, even_half, none_put, half_put, both_put}
+use Rattle.mesh.proofs.Halves.{three_room, halved, some_left, half_corners, half_room, odd_cut, odd_half, even_half, none_put, half_put, both_put}
 use Rattle.mesh.proofs.cut.+cutting.Goals as goal
 use Rattle.mesh.proofs.cut.+cutting.Goals.{cut_at_centre-then-midpoint_kept, cut_at_centre-else-midpoint_kept, cut_at_edge-then-is_cut+then-even-eq2, cut_at_edge-then-is_cut+else-even-eq2, cut_at_edge-else-is_cut}
 
 pub cut_at_centre-loop-half-init : goal.cut_at_centre-loop-half-init
 cut_at_centre-loop-half-init t c =
     let p = c.requires in
-    let h : Halved c.args.marks.now c.args.left c.args.l c.args.a c.args.r c.midpoint-centre.result c.args.at c.args.places.now =
-    record { corners = p.0; middle = c.midpoint-centre.ensures; is = p.1; room = p.3 } in
+    let h = halved c.args.left c.args.at c.args.places.now p.0 c.midpoint-centre.ensures p.1 p.3 in
     (omega arith, none_put h)
 
 pub cut_at_centre-cut_at_edge-next-requires : goal.cut_at_centre-cut_at_edge-next-requires
 cut_at_centre-cut_at_edge-next-requires t c =
     let p = c.requires in
-    let h : Halved c.args.marks.now c.args.left c.args.l c.args.a c.args.r c.midpoint-centre.result c.args.at c.args.places.now =
-    record { corners = p.0; middle = c.midpoint-centre.ensures; is = p.1; room = p.3 } in
+    let h = halved c.args.left c.args.at c.args.places.now p.0 c.midpoint-centre.ensures p.1 p.3 in
     let w = c.loop-half in
     let below = c.loop-half-test.true in (
       omega (arith, c.decreases, some_left h),
@@ -31,8 +29,7 @@ cut_at_centre-cut_at_edge-next-requires t c =
 pub cut_at_centre-put-next-requires : goal.cut_at_centre-put-next-requires
 cut_at_centre-put-next-requires t c =
     let p = c.requires in
-    let h : Halved c.args.marks.now c.args.left c.args.l c.args.a c.args.r c.midpoint-centre.result c.args.at c.args.places.now =
-    record { corners = p.0; middle = c.midpoint-centre.ensures; is = p.1; room = p.3 } in
+    let h = halved c.args.left c.args.at c.args.places.now p.0 c.midpoint-centre.ensures p.1 p.3 in
     let w = c.loop-half in
     let below = c.loop-half-test.true in
     let k = half_corners h w.half below in
@@ -43,8 +40,7 @@ cut_at_centre-put-next-requires t c =
 pub cut_at_centre-loop-half-preserved : goal.cut_at_centre-loop-half-preserved
 cut_at_centre-loop-half-preserved t c =
     let p = c.requires in
-    let h : Halved c.args.marks.now c.args.left c.args.l c.args.a c.args.r c.midpoint-centre.result c.args.at c.args.places.now =
-    record { corners = p.0; middle = c.midpoint-centre.ensures; is = p.1; room = p.3 } in
+    let h = halved c.args.left c.args.at c.args.places.now p.0 c.midpoint-centre.ensures p.1 p.3 in
     let w = c.loop-half in
     let whole = odd_half h w.half p.2 in
     let told = odd_cut h w.half p.2 c.midpoint_kept.ensures in (
@@ -59,23 +55,20 @@ cut_at_centre-loop-half-preserved t c =
 pub cut_at_centre-returns : goal.cut_at_centre-returns
 cut_at_centre-returns t c =
     let p = c.requires in
-    let h : Halved c.args.marks.now c.args.left c.args.l c.args.a c.args.r c.midpoint-centre.result c.args.at c.args.places.now =
-    record { corners = p.0; middle = c.midpoint-centre.ensures; is = p.1; room = p.3 } in
+    let h = halved c.args.left c.args.at c.args.places.now p.0 c.midpoint-centre.ensures p.1 p.3 in
     let w = c.loop-half in
     both_put h w.half (omega (arith, w.invariant.0, c.loop-half-test.false)) w.invariant.1
 
 pub cut_at_edge-loop-half-init : goal.cut_at_edge-loop-half-init
 cut_at_edge-loop-half-init t c =
     let p = c.requires in
-    let h : Halved c.args.marks.now c.args.left c.args.l c.args.a c.args.r c.midpoint-edge.result c.args.at c.args.places.now =
-    record { corners = p.0; middle = c.midpoint-edge.ensures; is = p.1; room = p.3 } in
+    let h = halved c.args.left c.args.at c.args.places.now p.0 c.midpoint-edge.ensures p.1 p.3 in
     (omega arith, none_put h)
 
 pub cut_at_edge-last_cuts-next-requires : goal.cut_at_edge-last_cuts-next-requires
 cut_at_edge-last_cuts-next-requires t c =
     let p = c.requires in
-    let h : Halved c.args.marks.now c.args.left c.args.l c.args.a c.args.r c.midpoint-edge.result c.args.at c.args.places.now =
-    record { corners = p.0; middle = c.midpoint-edge.ensures; is = p.1; room = p.3 } in
+    let h = halved c.args.left c.args.at c.args.places.now p.0 c.midpoint-edge.ensures p.1 p.3 in
     let w = c.loop-half in
     let below = c.loop-half-test.true in
     let two = c.if-even-eq2.true in (
@@ -87,8 +80,7 @@ cut_at_edge-last_cuts-next-requires t c =
 pub cut_at_edge-cut_at_centre-next-requires : goal.cut_at_edge-cut_at_centre-next-requires
 cut_at_edge-cut_at_centre-next-requires t c =
     let p = c.requires in
-    let h : Halved c.args.marks.now c.args.left c.args.l c.args.a c.args.r c.midpoint-edge.result c.args.at c.args.places.now =
-    record { corners = p.0; middle = c.midpoint-edge.ensures; is = p.1; room = p.3 } in
+    let h = halved c.args.left c.args.at c.args.places.now p.0 c.midpoint-edge.ensures p.1 p.3 in
     let w = c.loop-half in
     let below = c.loop-half-test.true in (
       omega (arith, c.decreases, some_left h),
@@ -103,8 +95,7 @@ cut_at_edge-cut_at_centre-next-requires t c =
 pub cut_at_edge-put-next-requires : goal.cut_at_edge-put-next-requires
 cut_at_edge-put-next-requires t c =
     let p = c.requires in
-    let h : Halved c.args.marks.now c.args.left c.args.l c.args.a c.args.r c.midpoint-edge.result c.args.at c.args.places.now =
-    record { corners = p.0; middle = c.midpoint-edge.ensures; is = p.1; room = p.3 } in
+    let h = halved c.args.left c.args.at c.args.places.now p.0 c.midpoint-edge.ensures p.1 p.3 in
     let w = c.loop-half in
     let below = c.loop-half-test.true in
     let k = half_corners h w.half below in
@@ -115,8 +106,7 @@ cut_at_edge-put-next-requires t c =
 pub cut_at_edge-loop-half-preserved : goal.cut_at_edge-loop-half-preserved
 cut_at_edge-loop-half-preserved t c =
     let p = c.requires in
-    let h : Halved c.args.marks.now c.args.left c.args.l c.args.a c.args.r c.midpoint-edge.result c.args.at c.args.places.now =
-    record { corners = p.0; middle = c.midpoint-edge.ensures; is = p.1; room = p.3 } in
+    let h = halved c.args.left c.args.at c.args.places.now p.0 c.midpoint-edge.ensures p.1 p.3 in
     let w = c.loop-half in
     let whole = even_half h w.half p.2 in
     let told = sym c.is_cut.ensures in (
@@ -132,7 +122,6 @@ cut_at_edge-loop-half-preserved t c =
 pub cut_at_edge-returns : goal.cut_at_edge-returns
 cut_at_edge-returns t c =
     let p = c.requires in
-    let h : Halved c.args.marks.now c.args.left c.args.l c.args.a c.args.r c.midpoint-edge.result c.args.at c.args.places.now =
-    record { corners = p.0; middle = c.midpoint-edge.ensures; is = p.1; room = p.3 } in
+    let h = halved c.args.left c.args.at c.args.places.now p.0 c.midpoint-edge.ensures p.1 p.3 in
     let w = c.loop-half in
     both_put h w.half (omega (arith, w.invariant.0, c.loop-half-test.false)) w.invariant.1
