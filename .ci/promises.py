@@ -4,7 +4,11 @@ import re
 ENSURES = re.compile(r"\bensures(?: \w+)? \{")
 
 FUNCTION = re.compile(r'^( *)pub (?:[a-z]+ |"C" )*fn (\w+)(.*?)(?:\n\1\{|\{$)', re.M | re.S)
-TYPE = re.compile(r"^impl (\w+) \{$(.*?)^\}$", re.M | re.S)
+TYPE = re.compile(r"^impl(?:<[^>\n]*>)? (\w+)(?:<[^>\n]*>)? \{$(.*?)^\}$", re.M | re.S)
+
+# A trait of the standard library for a type: what its function answers is said by a ghost member.
+TRAIT = re.compile(r"^impl (\w+)<(\w+)> for (\w+) \{$(.*?)^\}$", re.M | re.S)
+GIVES = re.compile(r"^    ghost \w+_gives = \{(.*?)\};$", re.M)
 
 
 def module_of(path):
@@ -17,15 +21,17 @@ def functions_of(path, text):
     """Each public function of a file, by its path: what stands before its body."""
     module = module_of(path)
     blocks = [(f"{module}::{name}", body) for name, body in TYPE.findall(text)]
-    blocks.append((module, TYPE.sub("", text)))
-    return [(f"{where}::{name}", head) for where, body in blocks for _, name, head in FUNCTION.findall(body)]
+    blocks.append((module, TRAIT.sub("", TYPE.sub("", text))))
+    named = [(f"{where}::{name}", head) for where, body in blocks for _, name, head in FUNCTION.findall(body)]
+    return named + [(f"{module}::{kind[0].upper()}{kind[1:]}{trait}{of}::{name}", "".join(f"ensures {{{said}}}" for said in GIVES.findall(body)))
+                    for trait, of, kind, body in TRAIT.findall(text) for name in re.findall(r"^    fn (\w+)", body, re.M)]
 
 
 def reading_faults(path, text, found):
     """What the patterns here do not see must not pass for nothing."""
-    public = len(re.findall(r"^\s*pub [^(\n]*\bfn ", text, re.M))
+    public = len(re.findall(r"^\s*pub [^(\n]*\bfn ", text, re.M)) + sum(len(re.findall(r"^    fn ", body, re.M)) for *_, body in TRAIT.findall(text))
     faults = [] if public == len(found) else [f"{path}: {public} public functions, of which {len(found)} could be read"]
-    return faults + [f"{path}: {line.strip()}: not read" for line in re.findall(r"^\s*(?:pub )?(?:mod \w+ \{|trait |impl.* for ).*$", text, re.M)]
+    return faults + [f"{path}: {line.strip()}: not read" for line in re.findall(r"^\s*(?:pub )?(?:mod \w+ \{|trait |impl.* for ).*$", TRAIT.sub("", text), re.M)]
 
 
 def named_in(table):

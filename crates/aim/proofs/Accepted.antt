@@ -14,7 +14,7 @@ use Rattle.grid.specs.Grid.{largest, samples, in_quarters, is_void}
 use Rattle.grid.specs.Refusal.{accepted, size_above, wrong_length, void_corner, point_beyond, bad_mark}
 use Rattle.grid.specs.declared.points.Point.{Point}
 use Rattle.survey.specs.Filled.{sample}
-use Rattle.selection.specs.Selected.{corners}
+use Rattle.grid.specs.Grid.{corners}
 use Rattle.selection.proofs.Corners.{corner_in, listed_corner}
 use Rattle.mesh.specs.Closed.{every, good_at}
 use Rattle.mesh.proofs.Every.{every_in, in_every}

@@ -1,61 +1,58 @@
--- The samples that the code reads have 16 bits, and one that is not void is a height; so a float holds heights by their weights, and tilts.
-use mathlib.Core.Path.{◌≡◌, refl}
-use mathlib.Core.Bool.{false}
+-- A height of the triangle in which a walk ended is one of 16 bits, none void; so a float holds heights by their weights, and tilts.
+use mathlib.Core.Path.{◌≡◌, refl, ◌∙◌}
 use mathlib.Core.List.{List}
-use Prim.Native.Nat.{ℕ, ◌*◌, ◌^◌, ◌≤◌, ◌<◌}
+use Prim.Native.Nat.{ℕ, ◌+◌, ◌*◌, ◌^◌, ◌≤◌, ◌<◌}
 use native.Mathlib.Nat.{mul-le-mul_right}
 use native.Mathlib.Omega.{arith}
-use lib.ListN.{length, get_or}
-use lib.IntN.{ℤ, pos, nat_abs}
-use lib.Signed.{nat_abs-le}
-use lib.Ieee.{prec}
+use lib.IntN.{ℤ}
+use lib.Signed.{mag, nat_abs-le}
 use mir.Syntax.{w16}
 use mir.Val.{SFits, to_z, of_z}
-use Rattle.grid.specs.Grid.{void, is_void, highest, Height, largest, widest}
-use Rattle.grid.proofs.OnGrid.{any_default}
-use Rattle.survey.proofs.Mean.{not_void_above, above_height}
-use Rattle.selection.proofs.Exact.{Exact}
+use mir.Facts.{to_z-of_z}
+use Rattle.grid.specs.Grid.{is_void, highest, in_quarters, largest, widest}
+use Rattle.grid.proofs.Places.{side_small}
+use Rattle.selection.proofs.Exact.{Exact, times}
 use Rattle.aim.specs.Quotient.{format, Representable}
 use Rattle.aim.specs.Aimed.{tilt}
-use Rattle.aim.specs.Inner.{Stands, Light, standing, void_in, weighted_in}
+use Rattle.aim.specs.Inner.{standing, share, weighted_in, Light, Footing}
+use Rattle.aim.specs.declared.walk.Corner.{Corner}
 use Rattle.aim.specs.declared.walk.Reached.{Reached}
 use Rattle.aim.proofs.Either.{none}
-use Rattle.aim.proofs.Standing.{read}
+use Rattle.aim.proofs.Bounds.{quarters_power, is_height}
 use Rattle.aim.proofs.Planes.{weighted_most, tilt_most}
 
--- what the code holds at a place has 16 bits
-abbrev pub Held : List ℤ → ℕ → Type 0
-Held heights i = SFits w16 (get_or heights i (pos 0))
+-- a height that the code was told, and hands on
+pub seen : {h z : ℤ} → mag h < 32768 → h ≡ z → Exact (to_z w16 (of_z w16 h)) z 32768
+seen {h} l e = let f : SFits w16 h = record { sfits = l } in record { same = to_z-of_z f ∙ e; size = rw (← e) (nat_abs-le h l) }
 
-pub of_16 : (heights : List ℤ) (i : ℕ) → i < length heights → Held heights i → SFits w16 (standing heights i)
-of_16 heights i below f = rw (any_default heights i (pos 0) void below) at f
+-- what a corner adds, as the code was told
+pub share_told : {v : ℤ} (heights : List ℤ) (c : Corner) → c.weight ≤ in_quarters largest → SFits w16 (standing heights c) →
+    v ≡ share heights c → Exact v (share heights c) 16777216
+share_told heights c l f e =
+    let h : Exact (standing heights c) (standing heights c) 32768 = record { same = refl; size = nat_abs-le (standing heights c) f.sfits } in
+    record { same = e; size = omega (arith, (times c.weight h).size, mul-le-mul_right 32768 l) }
 
--- what it reads there is what stands there
-abbrev pub Seen : List ℤ → ℕ → Type 0
-Seen heights i = Exact (to_z w16 (of_z w16 (get_or heights i (pos 0)))) (standing heights i) 32768
+module _ {m : ℕ} {marks : List ℕ} {heights : List ℤ} {t : Reached} (small : m ≤ largest) (f : Footing m marks heights t) where
+  pub light : Light t
+  light = omega (arith, f.weights, side_small small)
 
-pub reading : (heights : List ℤ) (i : ℕ) → i < length heights → Held heights i → Seen heights i
-reading heights i below f = record {
-  same = read heights i below f;
-  size = nat_abs-le (standing heights i) (of_16 heights i below f).sfits;
-}
-
-module _ (heights : List ℤ) (t : Reached) (stands : Stands heights t) (light : Light t) (surveyed : void_in heights t ≡ false) where
-  pub weighted_held : Held heights t.l → Held heights t.a → Held heights t.r → nat_abs (weighted_in heights t) < 2 ^ prec format
+  -- the height times 4N, over 4N
+  pub weighted_fits : Representable format (weighted_in heights t) (in_quarters m)
   unfolding weighted_in
-  weighted_held l a r =
-      let v = none (is_void (standing heights t.l)) (is_void (standing heights t.a)) (is_void (standing heights t.r)) surveyed in
+  weighted_fits =
+      let v = none (is_void (standing heights t.l)) (is_void (standing heights t.a)) (is_void (standing heights t.r)) f.surveyed in
       let most =
-      weighted_most t.wl t.wa t.wr (standing heights t.l) (standing heights t.a) (standing heights t.r) highest
-      (at_place t.l stands.left l v.0)
-      (at_place t.a stands.apex a v.1)
-      (at_place t.r stands.right r v.2)
+      weighted_most t.l.weight t.a.weight t.r.weight (standing heights t.l) (standing heights t.a) (standing heights t.r) highest
+      (is_height (standing heights t.l) f.stored.left.sfits v.0)
+      (is_height (standing heights t.a) f.stored.apex.sfits v.1)
+      (is_height (standing heights t.r) f.stored.right.sfits v.2)
       in
-      omega (arith, most, mul-le-mul_right highest light)
-    where
-      at_place : (i : ℕ) → i < length heights → Held heights i → is_void (standing heights i) ≡ false → Height (standing heights i)
-      at_place i below f v =
-          above_height (standing heights i) (not_void_above (standing heights i) (of_16 heights i below f).sfits v)
+      record {
+        power = 2 + m;
+        is = quarters_power m;
+        few = omega (arith, small);
+        whole = omega (arith, most, mul-le-mul_right highest light);
+      }
 
 -- a tilt of samples, over a triangle's doubled area
 pub tilt_fits : {u v w hp hq hw : ℤ} {cp cq cw left : ℕ} → Exact u hp 32768 → Exact v hq 32768 → Exact w hw 32768 →

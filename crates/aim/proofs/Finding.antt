@@ -1,50 +1,48 @@
--- What the code finds: the number of the first refusal, or where the walk ends. By the cases in their order; the walk itself tells of a
--- mark that isn't good, and of a void corner the triangle that it ends in.
-use mathlib.Core.Path.{◌≡◌, refl, ap, ◌∙◌}
-use mathlib.Core.Bool.{Bool, true, false, cond, not, ◌&&◌}
+-- What the code finds: the first refusal, or where the walk ends. By the cases in their order; the walk itself tells of a mark that isn't good.
+use mathlib.Core.Path.{◌≡◌, refl, sym, ap, ◌∙◌}
+use mathlib.Core.Bool.{Bool, true, false, cond, not, ◌&&◌, and-false}
 use mathlib.Core.List.{List}
-use mathlib.Core.Logic.{◌≢◌}
+use mathlib.Core.Logic.{◌⊎◌, ⊎_elim}
 use Prim.Native.Nat.{ℕ, ◌*◌, ◌≤◌, ◌<◌}
-use borrow.Author.Tests.{ne_eqb, lt-ltb, le-ltb, ltb-false}
-use lib.Dec.{eqb, ltb}
-use lib.IntN.{ℤ}
-use Rattle.grid.specs.Grid.{largest}
+use native.Mathlib.Omega.{arith}
+use borrow.Author.Tests.{le-ltb}
+use lib.ListN.{length}
+use Rattle.std.specs.Prelude.{Ok, Err}
+use Rattle.grid.specs.Grid.{largest, samples, in_quarters, at}
 use Rattle.grid.specs.Mark.{good_mark}
-use Rattle.grid.specs.Refusal.{accepted, size_above, wrong_length, void_corner, point_beyond, bad_mark}
+use Rattle.grid.specs.Refusal.{accepted, number, wrong_length, void_corner, point_beyond, bad_mark}
+use Rattle.grid.specs.Sizes.{size_answer}
+use Rattle.grid.specs.declared.refusals.Refusal.{Refusal}
+use Rattle.grid.specs.declared.refusals.Refusal.TheVariants.{BadMark}
+use Rattle.grid.specs.declared.sizes.Size.{Size}
+use Rattle.grid.proofs.Sized.{given, refused}
 use Rattle.selection.specs.Marks.{mark_at}
-use Rattle.selection.specs.Selected.{corners}
+use Rattle.grid.specs.Grid.{corners}
 use Rattle.selection.proofs.Corners.{listed_corner}
 use Rattle.mesh.proofs.Every.{every_append, every_same}
 use Rattle.mesh.specs.Closed.{every, good_at, kept_by}
-use Rattle.aim.specs.Walk.{under, met}
-use Rattle.aim.specs.Aimed.{Handed, right_lengths, beyond, started, ended, looked, refusal}
-use Rattle.aim.specs.Rule.{queried}
-use Rattle.aim.specs.Inner.{placed, last_refusal, checked, void_in, begun, Ready, Begun, corners_good, finished, found}
+use Rattle.aim.specs.Walk.{start, under, met}
+use Rattle.aim.specs.Aimed.{Handed, started, ended, looked, refusal}
+use Rattle.aim.specs.Rule.{Lengths, Within, size, lengths, point}
+use Rattle.aim.specs.Inner.{placed, void_in, walk_from, Stands, Light, Stored, Footing}
 use Rattle.aim.specs.declared.walk.Reached.{Reached}
-use Rattle.aim.specs.declared.walk.Walked.{Walked}
-use Rattle.aim.specs.declared.walk.Walked.TheVariants.{Ended, Refused}
-use Rattle.aim.proofs.Weights as weights
-use Rattle.aim.proofs.Weights.{Weighs}
-use Rattle.aim.proofs.Accepted as tests
-use Rattle.aim.proofs.Accepted.{inside}
+use Rattle.aim.proofs.Weights.{started as weighed}
+use Rattle.aim.proofs.Grounds.{weighs, cuts_left}
+use Rattle.aim.proofs.Accepted.{long, inside, turned_only}
 use Rattle.aim.proofs.Placing.{walk_placed, void_placed, stands_placed, light_placed}
 
--- an ended walk by the last two refusals
-module _ (good : Bool) (heights : List ℤ) (t : Reached) {n : ℕ} (is : n ≡ last_refusal good (void_in heights t)) where
-  pub checked_refused : n ≢ accepted → Refused n ≡ checked good heights (Ended t)
-  checked_refused turned = let e = ne_eqb n accepted turned in rw (← is, e)
+-- what is known where none of the first three refusals holds
+pub record Asked (h : Handed) : Type 0 where
+  pub small : h.m ≤ largest
+  pub lengths : Lengths h
+  pub within : Within h
 
-  pub checked_ended : n ≡ accepted → Ended t ≡ checked good heights (Ended t)
-  checked_ended ok = rw (← is, ok)
+-- the marks at the grid corners are good
+abbrev pub corners_good : ℕ → List ℕ → Bool
+corners_good m marks = every (λ p. good_mark true (mark_at m marks p)) (corners m)
 
+-- and those of the midpoints that the walk meets
 module _ (h : Handed) where
-  -- where the walk starts, and where it ends
-  abbrev pub from : Reached
-  from = placed h.m (under (started h) (2 * h.m))
-
-  abbrev pub to : Reached
-  to = placed h.m (ended h)
-
   abbrev met_good : Bool
   met_good = every (good_at h.m h.marks) (met (kept_by h.m h.marks) (2 * h.m) (started h))
 
@@ -57,84 +55,114 @@ module _ (h : Handed) where
       (every_same (good_at m h.marks) (λ p. good_mark true (mark_at m h.marks p)) (corners m)
       (λ p i. ap (λ (b : Bool). good_mark b (mark_at m h.marks p)) (listed_corner m p i)))
 
-  -- each case, where those before it do not hold
-  pub begun_size : largest < h.m → Refused size_above ≡ begun h
-  unfolding begun
-  begun_size above = rw (lt-ltb largest h.m above)
+  -- a size that is none
+  pub size_refused : {r : Refusal} → Err r ≡ size_answer h.m → refusal h ≡ number r
+  size_refused e = let r = refused h.m e in rw r.1 (sym (turned_only h (size r.0)))
 
-  module _ (small : h.m ≤ largest) where
-    pub begun_lengths : right_lengths h ≡ false → Refused wrong_length ≡ begun h
-    unfolding begun
-    begun_lengths other = rw (le-ltb largest h.m small, other)
+  -- s is the size that was given
+  module _ {s : Size} (e : Ok s ≡ size_answer h.m) where
+    told_samples : s.samples ≡ samples h.m
+    told_samples = ap (λ (s : Size). s.samples) (given h.m e).1
 
-    module _ (long : right_lengths h ≡ true) where
-      pub begun_beyond : beyond h ≡ true → Refused point_beyond ≡ begun h
-      unfolding begun
-      begun_beyond out = rw (le-ltb largest h.m small, long, out)
+    pub length_refused :
+        ¬ (length h.marks ≡ s.samples) ⊎ ((length h.marks ≡ s.samples) × ¬ (length h.heights ≡ s.samples)) → refusal h ≡ wrong_length
+    length_refused other =
+        sym (turned_only h (lengths (given h.m e).0
+        (λ l. ⊎_elim (λ n. n (l.marks ∙ sym told_samples)) (λ n. n.1 (l.heights ∙ sym told_samples)) other)))
 
-      module _ (within : beyond h ≡ false) where
-        pub begun_within : Ended from ≡ begun h
-        unfolding begun
-        begun_within = rw (le-ltb largest h.m small, long, within)
+    -- and of which there are as many marks and heights; g is the grid
+    module _ (marks : length h.marks ≡ s.samples) (heights : length h.heights ≡ s.samples) {m most : ℕ} (is : m ≡ h.m) (far : most ≡ in_quarters m) where
+      told_lengths : Lengths h
+      told_lengths = record { marks = marks ∙ told_samples; heights = heights ∙ told_samples }
 
-        weighs : Weighs h.m (2 * h.m) (queried h) (started h)
-        weighs = let w = (inside h).0 within in weights.started h.m (queried h) w.east w.north
+      told_most : most ≡ in_quarters h.m
+      told_most = far ∙ ap in_quarters is
 
-        ready : Ready h.m h.marks h.heights from
-        ready =
-            let l = (tests.long h).0 long in
-            let u = under (started h) (2 * h.m) in
-            record {
-              small = small;
-              long = l.marks;
-              marked = stands_placed h.m small l.marks u weighs;
-              over = stands_placed h.m small l.heights u weighs;
-              light = light_placed h.m small u weighs;
-            }
+      pub point_refused : (most < h.x) ⊎ ((h.x ≤ most) × (most < h.y)) → refusal h ≡ point_beyond
+      point_refused out =
+          sym (turned_only h (point (given h.m e).0 told_lengths
+          (λ w. ⊎_elim (λ o. omega (arith, o, w.east, told_most)) (λ o. omega (arith, o.1, w.north, told_most)) out)))
 
-        found_walk : finished h.m h.marks h.heights (Ended from) ≡ found h
-        unfolding found refusal ended
-        found_walk =
-            rw (
-              le-ltb largest h.m small,
-              long,
-              within,
-              looked_good,
-              walk_placed h.m h.marks (2 * h.m) (started h) weighs,
-              ← void_placed h.m h.heights (ended h),
-            )
-            (by (corners_good h.m h.marks) met_good (void_in h.heights to) refl)
-          where
-            number : Bool → Bool → ℕ
-            number b v = cond (not b) bad_mark (cond v void_corner accepted)
+      pub asked : h.x ≤ most → h.y ≤ most → Asked h
+      asked east north = record {
+        small = (given h.m e).0;
+        lengths = told_lengths;
+        within = record { east = omega (arith, east, told_most); north = omega (arith, north, told_most) };
+      }
 
-            by : (a b v : Bool) → void_in h.heights to ≡ v → checked a h.heights (cond b (Ended to) (Refused bad_mark))
-                ≡ cond (eqb (number (a && b) v) accepted) (Ended to) (Refused (number (a && b) v))
-            by true true true e = rw e
-            by true true false e = rw e
-            by true false v e = refl
-            by false true v e = refl
-            by false false v e = refl
+module _ {h : Handed} (a : Asked h) where
+  -- where the walk ends
+  abbrev to : Reached
+  to = placed h.m (ended h)
 
-  -- what holds of a refusal that is found, and of where a walk starts, holds of what was begun
-  begun_either : (P : Walked → Type 0) → ((n : ℕ) → Refused n ≡ found h → P (Refused n)) →
-      (h.m ≤ largest → right_lengths h ≡ true → beyond h ≡ false → P (Ended from)) → P (begun h)
-  unfolding begun found refusal
-  begun_either P refused starts = by (ltb largest h.m) (right_lengths h) (beyond h) refl refl refl
-    where
-      by : (a b c : Bool) → ltb largest h.m ≡ a → right_lengths h ≡ b → beyond h ≡ c →
-          P (cond a (Refused size_above) (cond (not b) (Refused wrong_length) (cond c (Refused point_beyond) (Ended from))))
-      by true b c above long out = refused size_above (rw above)
-      by false false c above long out = refused wrong_length (rw (above, long))
-      by false true true above long out = refused point_beyond (rw (above, long, out))
-      by false true false above long out = starts (ltb-false largest h.m above) long out
+  -- the last two refusals
+  last : refusal h ≡ cond (not (corners_good h.m h.marks && met_good h)) bad_mark (cond (void_in h.heights to) void_corner accepted)
+  unfolding refusal
+  last =
+      rw (le-ltb largest h.m a.small, (long h).1 a.lengths, (inside h).1 a.within, looked_good h, ← void_placed h.m h.heights (ended h)) refl
 
-  pub begun_ready : Begun h.m h.marks h.heights (begun h)
-  begun_ready = begun_either (Begun h.m h.marks h.heights) (λ n is. tt) ready
+  pub corner_refused : corners_good h.m h.marks ≡ false → refusal h ≡ bad_mark
+  corner_refused bad = last ∙ rw bad refl
 
-  pub finished_begun : finished h.m h.marks h.heights (begun h) ≡ found h
-  finished_begun = begun_either (λ w. finished h.m h.marks h.heights w ≡ found h) (λ n is. is) found_walk
+  -- t is where the walk starts
+  module _ {m : ℕ} (is : m ≡ h.m) {t : Reached} (starts : t ≡ placed m (under (start m (at h.x h.y)) (2 * m))) where
+    told_start : t ≡ placed h.m (under (started h) (2 * h.m))
+    told_start = starts ∙ ap (λ (m : ℕ). placed m (under (start m (at h.x h.y)) (2 * m))) is
 
-  -- so what the code was told of a walk, by what it was told of its beginning
-  pub told : {b w : Walked} → b ≡ begun h → w ≡ finished h.m h.marks h.heights b → w ≡ found h
-  told e f = f ∙ ap (finished h.m h.marks h.heights) e ∙ finished_begun
+    pub walks : Stands h.marks t × Light t
+    walks =
+        let u = under (started h) (2 * h.m) in
+        let w = weighed h.m (at h.x h.y) a.within.east a.within.north in
+        rw told_start (stands_placed h.m a.small a.lengths.marks u w, light_placed h.m a.small u w)
+
+    walk_told : walk_from h.marks t.left t ≡ cond (met_good h) (Ok to) (Err BadMark)
+    unfolding ended
+    walk_told =
+        rw told_start
+        (walk_placed h.m h.marks (2 * h.m) (started h) (weighed h.m (at h.x h.y) a.within.east a.within.north))
+
+    -- it meets a mark that is not good
+    pub met_refused : {r : Refusal} → Err r ≡ walk_from h.marks t.left t → refusal h ≡ number r
+    met_refused {r} e = by (met_good h) refl
+      where
+        by : (b : Bool) → met_good h ≡ b → refusal h ≡ number r
+        by true g = let no : Err r ≡ Ok to = e ∙ walk_told ∙ rw g refl in cc
+        by false g =
+            let told : Err r ≡ Err BadMark = e ∙ walk_told ∙ rw g refl in
+            let same : r ≡ BadMark = cc in
+            rw same (last ∙ rw (g, and-false (corners_good h.m h.marks)) refl)
+
+    -- or ends in u
+    module _ {u : Reached} (e : Ok u ≡ walk_from h.marks t.left t) where
+      ends : (met_good h ≡ true) × (u ≡ to)
+      ends = by (met_good h) refl
+        where
+          by : (b : Bool) → met_good h ≡ b → (met_good h ≡ true) × (u ≡ to)
+          by true g = (g, let told : Ok u ≡ Ok to = e ∙ walk_told ∙ rw g refl in cc)
+          by false g = let no : Ok u ≡ Err BadMark = e ∙ walk_told ∙ rw g refl in cc
+
+      pub sampled : Stands h.heights u
+      sampled = rw ends.1 (stands_placed h.m a.small a.lengths.heights (ended h) (weighs h a.within))
+
+      told_void : void_in h.heights u ≡ void_in h.heights to
+      told_void = ap (void_in h.heights) ends.1
+
+      module _ (good : corners_good h.m h.marks ≡ true) where
+        pub void_refused : void_in h.heights u ≡ true → refusal h ≡ void_corner
+        void_refused void = last ∙ rw (good, ends.0, sym told_void ∙ void) refl
+
+        pub lands : void_in h.heights u ≡ false → (refusal h ≡ accepted) × (u ≡ to)
+        lands full = (last ∙ rw (good, ends.0, sym told_void ∙ full) refl, ends.1)
+
+      pub footing : void_in h.heights u ≡ false → Stored h.heights u → Footing h.m h.marks h.heights u
+      footing full stored =
+          let w = weighs h a.within in
+          record {
+            marked = rw ends.1 (stands_placed h.m a.small a.lengths.marks (ended h) w);
+            long = a.lengths.heights;
+            stands = sampled;
+            stored = stored;
+            surveyed = full;
+            weights = rw ends.1 w.sum;
+            cuts = rw ends.1 (cuts_left h a.within);
+          }

@@ -15,7 +15,6 @@ pub mod Selected
 pub mod Values
 pub mod Promised
 pub mod Products
-pub mod Standing
 pub mod Bits
 pub mod Stepping
 pub mod Placing

@@ -18,7 +18,7 @@ use Rattle.grid.specs.declared.points.Point.{Point}
 use Rattle.grid.proofs.Members.{All}
 use Rattle.survey.specs.Filled.{sample}
 use Rattle.selection.specs.Marks.{mark_at}
-use Rattle.selection.specs.Selected.{corners}
+use Rattle.grid.specs.Grid.{corners}
 use Rattle.mesh.specs.Triangles.{Three}
 use Rattle.mesh.specs.Closed.{every, good_at, kept_by}
 use Rattle.mesh.proofs.Every.{every_same}

@@ -12,7 +12,9 @@ use lib.IntN.{ℤ}
 use lib.Ieee.{Float}
 use Rattle.grid.specs.Grid.{side, samples, largest, in_quarters, at, place, is_void, Inside}
 use Rattle.grid.specs.Points.{odd}
-use Rattle.grid.specs.Refusal.{bad_mark}
+use Rattle.grid.specs.declared.refusals.Refusal.{Refusal}
+use Rattle.grid.specs.declared.refusals.Refusal.TheVariants.{BadMark}
+use Rattle.std.specs.Prelude.{Result, Ok, Err}
 use Rattle.grid.specs.declared.points.Point.{Point}
 use Rattle.grid.proofs.Places.{side_small, samples_small, place_below, point_place, midplace_place}
 use Rattle.grid.proofs.Cutting.{cut, corners_inside}
@@ -24,10 +26,9 @@ use Rattle.mesh.specs.Inner.{good_inner}
 use Rattle.aim.specs.Quotient.{format, quotient}
 use Rattle.aim.specs.Walk.{Weighed, Under, start, cut_of, half, under, walk, met}
 use Rattle.aim.specs.Aimed.{corners_of, weighted, is_filled, eastward, northward, height_in, ground_in}
-use Rattle.aim.specs.Inner.{placed, half_at, walk_from, Stands, Light, void_in, filled_in, weighted_in, ground_by, ground_at}
+use Rattle.aim.specs.Inner.{corner, placed, half_at, walk_from, Stands, Light, void_in, filled_in, weighted_in, ground_by, ground_at}
 use Rattle.aim.specs.declared.GroundPlane.{GroundPlane}
-use Rattle.aim.specs.declared.walk.Walked.{Walked}
-use Rattle.aim.specs.declared.walk.Walked.TheVariants.{Ended, Refused}
+use Rattle.aim.specs.declared.walk.Reached.{Reached}
 use Rattle.aim.proofs.Weights.{Weighs, half_first, half_second, halved}
 use Rattle.aim.proofs.Stepping.{half_either}
 
@@ -51,13 +52,23 @@ module _ (m : ℕ) where
 
   -- the triangle in which the walk starts
   pub start_first : (x y : ℕ) → y ≤ x →
-      record { l = 0; a = side m; r = side m * (side m + 1) + side m; wl = in_quarters m - x; wa = x - y; wr = y; left = 2 * m }
+      record {
+        l = corner 0 (in_quarters m - x);
+        a = corner (side m) (x - y);
+        r = corner (side m * (side m + 1) + side m) y;
+        left = 2 * m;
+      }
       ≡ placed m (under (start m (at x y)) (2 * m))
   unfolding start
   start_first x y h = rw (le-leb y x h, ← south_west, ← south_east, ← north_east)
 
   pub start_second : (x y : ℕ) → x < y →
-      record { l = side m * (side m + 1) + side m; a = side m * (side m + 1); r = 0; wl = x; wa = y - x; wr = in_quarters m - y; left = 2 * m }
+      record {
+        l = corner (side m * (side m + 1) + side m) x;
+        a = corner (side m * (side m + 1)) (y - x);
+        r = corner 0 (in_quarters m - y);
+        left = 2 * m;
+      }
       ≡ placed m (under (start m (at x y)) (2 * m))
   unfolding start
   start_second x y h = rw (lt-leb y x h, ← south_west, ← north_west, ← north_east)
@@ -74,8 +85,8 @@ module _ (m : ℕ) where
     abbrev good_met : ℕ → Weighed → Bool
     good_met k t = every (good_at m marks) (met (kept_by m marks) k t)
 
-    abbrev pub reached : ℕ → Weighed → Walked
-    reached k t = cond (good_met k t) (Ended (placed m (walk (kept_by m marks) k t))) (Refused bad_mark)
+    abbrev pub reached : ℕ → Weighed → Result Reached Refusal
+    reached k t = cond (good_met k t) (Ok (placed m (walk (kept_by m marks) k t))) (Err BadMark)
 
     pub walk_placed : (k : ℕ) (t : Weighed) {q : Point} → Weighs m k q t → walk_from marks k (placed m (under t k)) ≡ reached k t
     unfolding walk_from walk met
@@ -86,15 +97,15 @@ module _ (m : ℕ) where
         (by (good_inner marks (place m (cut_of t))) (kept_by m marks (cut_of t)) (walk_placed k (half t) (halved w)))
       where
         by : (good kept : Bool) → walk_from marks k (placed m (under (half t) k)) ≡ reached k (half t) →
-            cond good (cond kept (walk_from marks k (placed m (under (half t) k))) (Ended (placed m (under t (suc k))))) (Refused bad_mark)
+            cond good (cond kept (walk_from marks k (placed m (under (half t) k))) (Ok (placed m (under t (suc k))))) (Err BadMark)
             ≡ cond (good && every (good_at m marks) (cond kept (met (kept_by m marks) k (half t)) []))
-            (Ended (placed m (cond kept (walk (kept_by m marks) k (half t)) (under t (suc k))))) (Refused bad_mark)
+            (Ok (placed m (cond kept (walk (kept_by m marks) k (half t)) (under t (suc k))))) (Err BadMark)
         by true true further = further
         by true false further = refl
         by false kept further = refl
 
     pub filled_placed : (u : Under) → filled_in marks (placed m u) ≡ is_filled m marks u.triangle
-    unfolding filled_in is_filled
+    unfolding is_filled
     filled_placed u = refl
 
   module _ (heights : List ℤ) where
@@ -116,21 +127,21 @@ module _ (m : ℕ) where
       north = quotient format (northward m heights t) (2 ^ k);
     }
 
-    sloped_placed : (height : Float) (k : ℕ) {p q w : Point} → Inside m p → Inside m q → Inside m w →
-        ground_by m heights height (place m p) (place m q) (place m w) k ≡ sloped height k (three p q w)
-    unfolding ground_by eastward northward sample
-    sloped_placed height k {p} {q} {w} hp hq hw = rw (point_place m p hp, point_place m q hq, point_place m w hw)
+    sloped_placed : (u : Under) {p q w : Point} (i j k : ℕ) → Inside m p → Inside m q → Inside m w →
+        ground_by m heights (placed m u) (corner (place m p) i) (corner (place m q) j) (corner (place m w) k)
+        ≡ sloped (height_in m heights u.triangle) u.left (three p q w)
+    unfolding ground_by eastward northward sample height_in
+    sloped_placed u {p} {q} {w} i j k hp hq hw = rw (point_place m p hp, point_place m q hq, point_place m w hw, weighted_placed u)
 
     pub ground_placed : (u : Under) {q : Point} → Weighs m u.left q u.triangle →
         ground_at m heights (placed m u) ≡ ground_in m heights u
-    unfolding ground_at ground_in height_in
+    unfolding ground_in
     ground_placed u w =
         let c = corners_inside w.triangle in
-        let z = quotient format (weighted m heights u.triangle) (in_quarters m) in
+        let t = u.triangle in
         rw (
-          weighted_placed u,
-          sloped_placed z u.left c.right c.top c.left,
-          sloped_placed z u.left c.left c.top c.right,
+          sloped_placed u t.wr t.wa t.wl c.right c.top c.left,
+          sloped_placed u t.wl t.wa t.wr c.left c.top c.right,
         )
         (turned (sloped _ u.left) (odd u.left) _ _)
       where

@@ -10,7 +10,7 @@ use Rattle.grid.specs.declared.points.Point.{Point}
 use Rattle.survey.specs.Filled.{sample}
 use Rattle.selection.specs.Kept.{some}
 use Rattle.selection.specs.Marks.{mark_at}
-use Rattle.selection.specs.Selected.{corners}
+use Rattle.grid.specs.Grid.{corners}
 use Rattle.mesh.specs.Triangles.{Three, written}
 use Rattle.mesh.specs.Closed.{every, good_at, kept_by}
 use Rattle.aim.specs.Quotient.{format, plus_zero, quotient}

@@ -4,3 +4,4 @@ pub mod Aimed
 pub mod Geometry
 pub mod Rule
 pub mod Inner
+pub mod Found

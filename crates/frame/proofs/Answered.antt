@@ -3,36 +3,24 @@ use mathlib.Core.Path.{◌≡◌, sym, ap, ◌∙◌}
 use mathlib.Core.Logic.{◌≢◌}
 use mathlib.Core.List.{List}
 use Prim.Native.Nat.{ℕ}
-use native.Mathlib.Decide.{ℕ_discrete}
 use lib.IntN.{ℤ, pos}
 use borrow.Author.Tests.{ne_eqb}
+use Rattle.std.specs.Prelude.{Ok, Err}
+use Rattle.grid.specs.declared.refusals.Refusal.{Refusal}
 use Rattle.grid.specs.Grid.{samples, place}
 use Rattle.grid.specs.Refusal.{accepted}
 use Rattle.grid.proofs.OnGrid.{is_on_grid}
 use Rattle.grid.proofs.Places.{place_point}
-use Rattle.frame.specs.Frame.{size_in, tolerance_in, refusal, answer_of, height_at, survey_in, Handed, heights_refusal, survey_after}
+use Rattle.frame.specs.Frame.{number_of, framed, answer_of, size_in, height_at, survey_in, Handed, heights_answer, heights_refusal, survey_after, Surveys}
 use Rattle.frame.specs.Inner.{Copied}
 use Rattle.frame.specs.declared.Frame.{Frame}
-
-abbrev pub answering : ℕ → ℕ → ℕ → Frame
-answering refusal m tolerance = record { refusal = refusal; m = m; tolerance = tolerance }
+use Rattle.grid.proofs.Refused.{refused}
+use Rattle.frame.proofs.Accepted.{accepted_input}
 
 module _ (input : List ℕ) where
-  pub answer_taken : refusal input ≡ accepted → answer_of input ≡ answering accepted (size_in input) (tolerance_in input)
-  unfolding answer_of
-  answer_taken ok = rw ok
-
-  pub answer_refused : refusal input ≢ accepted → answer_of input ≡ answering (refusal input) 0 0
-  unfolding answer_of
-  answer_refused n = rw (ne_eqb (refusal input) accepted n)
-
-  -- the answer carries the refusal number
-  pub answer_refusal : (answer_of input).refusal ≡ refusal input
-  answer_refusal = by (ℕ_discrete (refusal input) accepted)
-    where
-      by : Dec (refusal input ≡ accepted) → (answer_of input).refusal ≡ refusal input
-      by (yes e) = ap (λ (a : Frame). a.refusal) (answer_taken e) ∙ sym e
-      by (no n) = ap (λ (a : Frame). a.refusal) (answer_refused n)
+  -- what is answered with no refusal
+  pub frame_is : {f : Frame} → answer_of input ≡ Ok f → f ≡ framed input
+  frame_is {f} e = let k : Ok f ≡ Ok (framed input) = sym e ∙ (accepted_input input (ap number_of e)).carried in cc
 
   -- a survey of (N+1)² entries, each the height at its place, is the one that the input holds
   pub survey_is : {survey : List ℤ} → Copied input (samples (size_in input)) survey → survey ≡ survey_in input
@@ -50,3 +38,10 @@ module _ (h : Handed) where
   pub survey_refused : heights_refusal h ≢ accepted → survey_after h ≡ h.survey
   unfolding survey_after
   survey_refused n = rw (ne_eqb (heights_refusal h) accepted n)
+
+  -- so these meet the promise
+  pub turned_down : {r : Refusal} → heights_answer h ≡ Err r → Surveys h (Err r) h.survey
+  turned_down {r} e = record { answer = sym e; survey = sym (survey_refused (λ z. refused r (sym (ap number_of e) ∙ z))) }
+
+  pub surveyed : heights_answer h ≡ Ok tt → {survey' : List ℤ} → survey' ≡ survey_in h.input → Surveys h (Ok tt) survey'
+  surveyed e s = record { answer = sym e; survey = s ∙ sym (survey_taken (ap number_of e)) }

@@ -1,4 +1,5 @@
 pub mod Numbers
+pub mod Numbered
 pub mod Accepted
 pub mod Answered
 pub mod Rule

@@ -4,6 +4,8 @@ use mathlib.Core.Path.{◌≡◌, refl}
 use mathlib.Core.List.{List}
 use Prim.Native.Nat.{ℕ}
 use lib.IntN.{ℤ}
+use Rattle.std.specs.Prelude.{⊤, Result}
+use Rattle.grid.specs.declared.refusals.Refusal.{Refusal}
 use Rattle.frame.specs.Frame.{handed}
 use Rattle.frame.specs.Rule.{Follows, FollowsHeights}
 use Rattle.frame.specs.declared.Frame.{Frame}
@@ -15,9 +17,9 @@ use Rattle.frame.proofs.heights.Reads as heights
 pub in_place : (input : List ℕ) (survey : List ℤ) → ((handed input survey).input ≡ input) × ((handed input survey).survey ≡ survey)
 in_place input survey = (refl, refl)
 
-pub promised : (k : _) (a : _) (r : Frame) (o : _) → read.Learnt k a r o → Follows a.0.now r
+pub promised : (k : _) (a : _) (r : Result Frame Refusal) (o : _) → read.Learnt k a r o → Follows a.0.now r
 promised k a r o promise = (follows a.0.now).0 promise
 
-pub promised_heights : (k : _) (a : _) (r : ℕ) (o : _) → heights.Learnt k a r o →
+pub promised_heights : (k : _) (a : _) (r : Result ⊤ Refusal) (o : _) → heights.Learnt k a r o →
     FollowsHeights (handed a.0.now a.1.0.now) r o.1.0.now
 promised_heights k a r o promise = follows_heights.0 promise

@@ -1,64 +1,47 @@
 -- The promises of `read` and `heights` and document 01's sentences mean each other, of any answer and survey: what meets a promise
 -- follows the sentences, and whatever follows the sentences meets the promise. So the sentences leave nothing open.
-use mathlib.Core.Path.{◌≡◌, sym, ap, ◌∙◌}
-use mathlib.Core.Logic.{◌≢◌, ◌↔◌}
+use mathlib.Core.Path.{◌≡◌, refl, sym, ap, ◌∙◌}
+use mathlib.Core.Logic.{◌↔◌}
 use mathlib.Core.List.{List}
 use Prim.Native.Nat.{ℕ, ◌+◌, ◌*◌}
 use native.Mathlib.Decide.{ℕ_discrete}
 use lib.IntN.{ℤ, pos}
+use Rattle.std.specs.Prelude.{⊤, Result}
+use Rattle.grid.specs.declared.refusals.Refusal.{Refusal}
 use Rattle.grid.specs.Grid.{place, point}
 use Rattle.grid.specs.Refusal.{accepted}
 use Rattle.grid.specs.declared.points.Point.{Point}
 use Rattle.grid.proofs.OnGrid.{length_on_grid, on_grid_point}
 use Rattle.grid.proofs.Places.{place_point, point_inside}
 use Rattle.frame.specs.Bytes.{number_at, signed}
-use Rattle.frame.specs.Frame.{heights_at, height_bytes, tolerance_at, size_in, refusal, answer_of}
-use Rattle.frame.specs.Frame.{height_at, survey_in, Handed, heights_refusal, survey_after, Surveys}
-use Rattle.frame.specs.Rule.{Nothing, Carries, Follows, HeightAt, RowByRow, FollowsHeights}
+use Rattle.frame.specs.Frame.{heights_at, height_bytes, tolerance_at, size_in, number_of, framed, answer_of}
+use Rattle.frame.specs.Frame.{height_at, survey_in, Handed, heights_answer, survey_after, Surveys}
+use Rattle.frame.specs.Rule.{Carries, Follows, HeightAt, RowByRow, FollowsHeights}
 use Rattle.frame.specs.declared.Frame.{Frame}
 use Rattle.frame.proofs.Numbers.{two_is, four_is, signed_is, signed_only}
-use Rattle.frame.proofs.Accepted.{turned, turned_only, turned_heights, heights_only}
-use Rattle.frame.proofs.Answered.{answering, answer_taken, answer_refused, answer_refusal, survey_is, survey_taken, survey_refused}
+use Rattle.frame.proofs.Accepted.{turned, turned_only, roomy, turned_heights, heights_only, roomy_heights}
+use Rattle.frame.proofs.Numbered.{alike}
+use Rattle.frame.proofs.Answered.{frame_is, survey_is, survey_taken, survey_refused}
 
--- `read`: what meets the promise follows the sentences
-module _ (input : List ℕ) {r : Frame} (s : r ≡ answer_of input) where
-  number : r.refusal ≡ refusal input
-  number = ap (λ (a : Frame). a.refusal) s ∙ answer_refusal input
+-- `read`
+module _ (input : List ℕ) where
+  carries : Carries input (framed input)
+  carries = record { m = refl; tolerance = four_is input tolerance_at }
 
-  nothing_else : r.refusal ≢ accepted → Nothing r
-  nothing_else n =
-      let zero = s ∙ answer_refused input (λ e. n (number ∙ e)) in
-      record { m = ap (λ (a : Frame). a.m) zero; tolerance = ap (λ (a : Frame). a.tolerance) zero }
+  carries_only : {f : Frame} → Carries input f → f ≡ framed input
+  carries_only k = λ i. record { m = k.m i; tolerance = (k.tolerance ∙ sym (four_is input tolerance_at)) i }
 
-  carries : r.refusal ≡ accepted → Carries input r
-  carries e =
-      let taken = s ∙ answer_taken input (sym number ∙ e) in
-      record {
-        m = ap (λ (a : Frame). a.m) taken;
-        tolerance = ap (λ (a : Frame). a.tolerance) taken ∙ four_is input tolerance_at;
-      }
-
--- and whatever follows them meets the promise
-module _ {input : List ℕ} {r : Frame} (f : Follows input r) where
-  given : r.refusal ≡ refusal input
-  given = turned_only input f.turned
-
-  answer_only : r ≡ answer_of input
-  answer_only = by (ℕ_discrete r.refusal accepted)
-    where
-      by : Dec (r.refusal ≡ accepted) → r ≡ answer_of input
-      by (yes e) =
-          let k = f.framed e in
-          (λ i. answering (e i) (k.m i) ((k.tolerance ∙ sym (four_is input tolerance_at)) i)) ∙ sym (answer_taken input (sym given ∙ e))
-      by (no n) =
-          let k = f.refused n in
-          (λ i. answering (given i) (k.m i) (k.tolerance i)) ∙ sym (answer_refused input (λ e. n (given ∙ e)))
-
-pub follows : (input : List ℕ) {r : Frame} → (r ≡ answer_of input) ↔ Follows input r
-follows input = (
-  λ s. record { turned = rw (number input s) (turned input); refused = nothing_else input s; framed = carries input s },
-  answer_only,
-)
+  pub follows : {r : Result Frame Refusal} → (r ≡ answer_of input) ↔ Follows input r
+  follows {r} = (
+    λ s.
+        record {
+          turned = rw s (turned input);
+          framed = λ f e. rw (frame_is input (sym s ∙ e)) carries;
+        },
+    λ k.
+        alike r (answer_of input) (turned_only input k.turned) (roomy input (turned input))
+        (λ x y e f. carries_only (k.framed x e) ∙ sym (frame_is input f)),
+  )
 
 -- the height at a place is there, and no other number is
 pub height_is : (input : List ℕ) (i : ℕ) {z : ℤ} → z ≡ height_at input i → HeightAt input i z
@@ -88,24 +71,22 @@ rows_only {input} {survey} k =
     })
 
 -- the same of `heights`
-module _ {h : Handed} {r : ℕ} {survey' : List ℤ} where
-  pub meets : FollowsHeights h r survey' → Surveys h r survey'
-  meets f = record { answer = given_h; survey = by (ℕ_discrete r accepted) }
-    where
-      given_h : r ≡ heights_refusal h
-      given_h = heights_only h f.turned
-
-      by : Dec (r ≡ accepted) → survey' ≡ survey_after h
-      by (yes e) = rows_only (f.surveyed e) ∙ sym (survey_taken h (sym given_h ∙ e))
-      by (no n) = f.refused n ∙ sym (survey_refused h (λ e. n (given_h ∙ e)))
-
+module _ {h : Handed} {r : Result ⊤ Refusal} {survey' : List ℤ} where
   pub follows_heights : Surveys h r survey' ↔ FollowsHeights h r survey'
   follows_heights = (
     λ s.
         record {
           turned = rw s.answer (turned_heights h);
-          refused = λ n. s.survey ∙ survey_refused h (λ e. n (s.answer ∙ e));
-          surveyed = λ e. rw (s.survey ∙ survey_taken h (sym s.answer ∙ e)) (row_by_row h.input);
+          refused = λ n. s.survey ∙ survey_refused h (λ e. n (ap number_of s.answer ∙ e));
+          surveyed = λ e. rw (s.survey ∙ survey_taken h (sym (ap number_of s.answer) ∙ e)) (row_by_row h.input);
         },
-    meets,
+    λ f.
+        record {
+          answer = alike r (heights_answer h) (heights_only h f.turned) (roomy_heights h (turned_heights h)) (λ x y e g. refl);
+          survey = by f (ℕ_discrete (number_of r) accepted);
+        },
   )
+    where
+      by : FollowsHeights h r survey' → Dec (number_of r ≡ accepted) → survey' ≡ survey_after h
+      by f (yes e) = rows_only (f.surveyed e) ∙ sym (survey_taken h (sym (heights_only h f.turned) ∙ e))
+      by f (no n) = f.refused n ∙ sym (survey_refused h (λ e. n (heights_only h f.turned ∙ e)))

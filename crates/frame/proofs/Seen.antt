@@ -15,10 +15,11 @@ use Rattle.grid.specs.Grid.{side}
 use Rattle.grid.specs.Refusal.{accepted}
 use Rattle.frame.specs.Bytes.{byte_at}
 use Rattle.frame.specs.Frame.{version_at, size_at, largest_framed, total_of, longest}
-use Rattle.frame.specs.Frame.{refusal, answer_of, handed, heights_refusal, survey_after}
+use Rattle.frame.specs.Frame.{number_of, refusal, answer_of, handed, heights_refusal, survey_after}
 use Rattle.frame.specs.Rule.{Opens, Total, Turned, short, other, size, total, field, nothing, frame}
-use Rattle.frame.proofs.Accepted.{turned, turned_only, heights_only}
-use Rattle.frame.proofs.Answered.{answering, answer_refused, survey_refused}
+use Rattle.frame.proofs.Accepted.{turned, turned_only, roomy, heights_only}
+use Rattle.frame.proofs.Numbered.{alike}
+use Rattle.frame.proofs.Answered.{survey_refused}
 
 -- no frame of a size up to the largest is longer than the longest
 pub total_most : {m : ℕ} → m ≤ largest_framed → total_of m ≤ longest
@@ -61,13 +62,11 @@ module _ (input : List ℕ) (long : longest < length input) where
   refused (field o l t f) e = omega arith
   refused (nothing o l t f) e = never l t
 
-  number : refusal (seen input) ≡ refusal input
-  number = sym (turned_only (seen input) (again (turned input)))
-
   answer_seen : answer_of (seen input) ≡ answer_of input
   answer_seen =
-      let n = refused (turned input) in
-      answer_refused (seen input) (λ e. n (sym number ∙ e)) ∙ ap (λ (r : ℕ). answering r 0 0) number ∙ sym (answer_refused input n)
+      let n = turned_only (seen input) (again (turned input)) in
+      alike (answer_of (seen input)) (answer_of input) (sym n) (roomy input (turned input))
+      (λ x y e f. absurd (refused (turned input) (ap number_of f)))
 
   module _ (survey : List ℤ) where
     given : refusal input ≡ heights_refusal (handed input survey)

@@ -5,10 +5,11 @@ use mathlib.Core.List.{List, [], ◌∷◌, ◌++◌, map}
 use Prim.Native.Nat.{ℕ}
 use lib.ListN.{replicate, take}
 use lib.IntN.{ℤ, pos, negsuc}
+use Rattle.std.specs.Prelude.{Ok, Err}
+use Rattle.grid.specs.declared.refusals.Refusal.TheVariants.{SizeAbove}
 use Rattle.grid.specs.Grid.{void, place, point, on_grid}
 use Rattle.frame.specs.Bytes.{signed}
-use Rattle.frame.specs.Frame.{longest, refusal, answer_of, survey_in, handed, heights_refusal, survey_after}
-use Rattle.frame.proofs.Answered.{answering}
+use Rattle.frame.specs.Frame.{longest, refusal, answer_of, survey_in, handed, heights_answer, heights_refusal, survey_after}
 
 -- a frame: the last two bytes of its length field, the version, m, and then the tolerance and the heights
 abbrev framed : ℕ → ℕ → ℕ → ℕ → List ℕ → List ℕ
@@ -25,8 +26,8 @@ q = 0 ∷ 0 ∷ 0 ∷ 10 ∷ replicate 14 0
 abbrev sample : List ℕ
 sample = framed 0 24 1 1 (tolerance 5 ++ q)
 
-pub sample_answer : answer_of sample ≡ answering 0 1 5
-unfolding answer_of refusal
+pub sample_answer : answer_of sample ≡ Ok (record { m = 1; tolerance = 5 })
+unfolding answer_of
 sample_answer = refl
 
 pub sample_survey : survey_in sample ≡ pos 0 ∷ pos 10 ∷ replicate 7 (pos 0)
@@ -37,8 +38,8 @@ sample_survey = refl
 abbrev small : List ℕ
 small = framed 0 14 1 0 (1 ∷ 2 ∷ 3 ∷ 4 ∷ 2 ∷ 1 ∷ 255 ∷ 254 ∷ 127 ∷ 255 ∷ 128 ∷ 0 ∷ [])
 
-pub small_answer : answer_of small ≡ answering 0 0 16909060
-unfolding answer_of refusal
+pub small_answer : answer_of small ≡ Ok (record { m = 0; tolerance = 16909060 })
+unfolding answer_of
 small_answer = refl
 
 pub small_survey : survey_in small ≡ pos 513 ∷ negsuc 1 ∷ pos 32767 ∷ void ∷ []
@@ -57,7 +58,7 @@ abbrev large : ℕ → List ℕ
 large bytes = framed 8 136 1 5 (tolerance 5 ++ replicate bytes 0)
 
 pub large_refusals : refusal (large 2178) ∷ refusal (large 2177) ∷ refusal (large 2179) ∷ refusal (large 5000) ∷ [] ≡ 0 ∷ 9 ∷ 9 ∷ 9 ∷ []
-unfolding refusal
+unfolding answer_of
 large_refusals = refl
 
 -- Each refusal, a line each: fewer than 6 bytes; another version; m above 5; a byte too few, one too many, only the first six; a length
@@ -77,12 +78,12 @@ refused =
     framed 0 0 2 1 (replicate 3000 0) ∷ framed 0 0 1 6 (replicate 3000 0) ∷ []
 
 pub refused_numbers : map refusal refused ≡ 9 ∷ 9 ∷ 9 ∷ 9 ∷ 1 ∷ 1 ∷ 9 ∷ 9 ∷ 9 ∷ 9 ∷ 9 ∷ 9 ∷ 9 ∷ 9 ∷ 9 ∷ 1 ∷ 9 ∷ 1 ∷ []
-unfolding refusal
+unfolding answer_of
 refused_numbers = refl
 
--- m and the tolerance handed back are 0
-pub refused_answer : answer_of (framed 0 24 1 6 (tolerance 5 ++ q)) ≡ answering 1 0 0
-unfolding answer_of refusal
+-- with the refusal nothing is handed back
+pub refused_answer : answer_of (framed 0 24 1 6 (tolerance 5 ++ q)) ≡ Err SizeAbove
+unfolding answer_of
 refused_answer = refl
 
 -- a survey of the right length, too short, too long; and the input's refusal before the survey's
@@ -90,14 +91,14 @@ abbrev nines : ℕ → List ℤ
 nines n = replicate n (pos 9)
 
 pub survey_numbers : map (λ n. heights_refusal (handed sample (nines n))) (9 ∷ 8 ∷ 10 ∷ 0 ∷ []) ≡ 0 ∷ 2 ∷ 2 ∷ 2 ∷ []
-unfolding heights_refusal refusal
+unfolding heights_answer answer_of
 survey_numbers = refl
 
 pub survey_later : heights_refusal (handed (take 27 sample) (nines 8)) ≡ 9
-unfolding heights_refusal refusal
+unfolding heights_answer answer_of
 survey_later = refl
 
 pub surveys_after : map survey_after (handed small (nines 4) ∷ handed small (nines 3) ∷ handed (take 17 small) (nines 4) ∷ [])
     ≡ (pos 513 ∷ negsuc 1 ∷ pos 32767 ∷ void ∷ []) ∷ nines 3 ∷ nines 4 ∷ []
-unfolding survey_after heights_refusal refusal survey_in on_grid place point
+unfolding survey_after heights_answer answer_of survey_in on_grid place point
 surveys_after = refl

@@ -1,8 +1,11 @@
 -- The input of the program, its refusals in their order, what it carries, and the heights read from it. Document 01, "The
 -- program". Definitions only.
-use Rattle.std.specs.Prelude.{◌≡◌, cond, not, List, ℕ, ◌+◌, ◌*◌, eqb, ltb, length, ℤ}
+use Rattle.std.specs.Prelude.{◌≡◌, cond, not, List, ℕ, ◌+◌, ◌*◌, eqb, ltb, length, ℤ, ⊤, Result, Ok, Err}
+use Rattle.std.specs.Result.{result_and}
 use Rattle.grid.specs.Grid.{samples, place, on_grid}
-use Rattle.grid.specs.Refusal.{accepted, size_above, wrong_length, input_form}
+use Rattle.grid.specs.Refusal.{accepted, number}
+use Rattle.grid.specs.declared.refusals.Refusal.{Refusal}
+use Rattle.grid.specs.declared.refusals.Refusal.TheVariants.{SizeAbove, WrongLength, InputForm}
 use Rattle.frame.specs.Bytes.{byte_at, number_at, signed}
 use Rattle.frame.specs.declared.Frame.{Frame}
 
@@ -62,21 +65,28 @@ length_of m = following + height_bytes * samples m
 abbrev pub longest : ℕ
 longest = total_of largest_framed
 
--- Fewer than 6 bytes, or another version: 9. Then m above 5: 1. Then a wrong total or length field: 9. Else no refusal.
-unfoldable pub refusal : List ℕ → ℕ
-refusal input =
-    cond (ltb (length input) fewest) input_form
-    (cond (not (eqb (byte_at input version_at) version)) input_form
-    (cond (ltb largest_framed (size_in input)) size_above
-    (cond (not (eqb (length input) (total_of (size_in input)))) input_form
-    (cond (not (eqb (number_at input length_at field_bytes) (length_of (size_in input)))) input_form accepted))))
+-- the number of what is answered: that of the refusal, or that of none
+abbrev pub number_of : {A : Type 0} → Result A Refusal → ℕ
+number_of (Ok _) = accepted
+number_of (Err refusal) = number refusal
 
--- the promise of `read`. Accepted: m and the tolerance; refused: the number, and 0 for each of them
-unfoldable pub answer_of : List ℕ → Frame
+-- what an accepted input carries: m, and the tolerance
+abbrev pub framed : List ℕ → Frame
+framed input = record { m = size_in input; tolerance = tolerance_in input }
+
+-- The promise of `read`. Fewer than 6 bytes, or another version: 9. Then m above 5: 1. Then a wrong total or length field: 9. Else no refusal.
+unfoldable pub answer_of : List ℕ → Result Frame Refusal
 answer_of input =
-    cond (eqb (refusal input) accepted)
-    (record { refusal = accepted; m = size_in input; tolerance = tolerance_in input })
-    (record { refusal = refusal input; m = 0; tolerance = 0 })
+    cond (ltb (length input) fewest) (Err InputForm)
+    (cond (not (eqb (byte_at input version_at) version)) (Err InputForm)
+    (cond (ltb largest_framed (size_in input)) (Err SizeAbove)
+    (cond (not (eqb (length input) (total_of (size_in input)))) (Err InputForm)
+    (cond (not (eqb (number_at input length_at field_bytes) (length_of (size_in input)))) (Err InputForm)
+    (Ok (framed input))))))
+
+-- its number
+abbrev pub refusal : List ℕ → ℕ
+refusal input = number_of (answer_of input)
 
 -- the height at a place: the signed number in the two bytes there
 abbrev pub height_at : List ℕ → ℕ → ℤ
@@ -95,16 +105,18 @@ abbrev pub handed : List ℕ → List ℤ → Handed
 handed input survey = record { input = input; survey = survey }
 
 -- the input's own refusals first, then 2 where the survey is not exactly (N+1)² long
-unfoldable pub heights_refusal : Handed → ℕ
-heights_refusal h =
-    cond (not (eqb (refusal h.input) accepted)) (refusal h.input)
-    (cond (not (eqb (length h.survey) (samples (size_in h.input)))) wrong_length accepted)
+unfoldable pub heights_answer : Handed → Result ⊤ Refusal
+heights_answer h =
+    result_and (answer_of h.input) (cond (not (eqb (length h.survey) (samples (size_in h.input)))) (Err WrongLength) (Ok tt))
+
+abbrev pub heights_refusal : Handed → ℕ
+heights_refusal h = number_of (heights_answer h)
 
 -- accepted: the heights; refused: the buffer stays untouched
 unfoldable pub survey_after : Handed → List ℤ
 survey_after h = cond (eqb (heights_refusal h) accepted) (survey_in h.input) h.survey
 
--- the promise of `heights`: the refusal number, and the survey at exit
-pub record Surveys (h : Handed) (r : ℕ) (survey' : List ℤ) : Type 0 where
-  pub answer : r ≡ heights_refusal h
+-- the promise of `heights`: the answer, and the survey at exit
+pub record Surveys (h : Handed) (r : Result ⊤ Refusal) (survey' : List ℤ) : Type 0 where
+  pub answer : r ≡ heights_answer h
   pub survey : survey' ≡ survey_after h

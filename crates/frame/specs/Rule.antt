@@ -1,12 +1,13 @@
 -- Document 01's sentences about the program's input, as records: the promises are proved to mean them, and they the promises. Where each part of the
 -- input stands is written here in numbers, once more, so that a slip in a name of `Frame` would show: a 4-byte length at 0, the version at 4, m at 5, the
 -- tolerance at 6, the heights from 10 on. Definitions only.
-use Rattle.std.specs.Prelude.{◌≡◌, List, ◌≢◌, ℕ, ◌+◌, ◌*◌, ◌^◌, ◌≤◌, ◌<◌, length, get_or, ℤ, pos, ◌+ℤ◌}
+use Rattle.std.specs.Prelude.{◌≡◌, List, ◌≢◌, ℕ, ◌+◌, ◌*◌, ◌^◌, ◌≤◌, ◌<◌, length, get_or, ℤ, pos, ◌+ℤ◌, ⊤, Result, Ok}
 use Rattle.grid.specs.Grid.{samples, side, Inside}
 use Rattle.grid.specs.Refusal.{accepted, size_above, wrong_length, input_form}
 use Rattle.grid.specs.declared.points.Point.{Point}
+use Rattle.grid.specs.declared.refusals.Refusal.{Refusal}
 use Rattle.frame.specs.Bytes.{byte_at}
-use Rattle.frame.specs.Frame.{Handed}
+use Rattle.frame.specs.Frame.{Handed, number_of}
 use Rattle.frame.specs.declared.Frame.{Frame}
 
 -- big-endian: n stands in the two bytes, or in the four bytes, from an index on, the first of them counting most
@@ -56,21 +57,15 @@ pub data Turned (input : List ℕ) : ℕ → Type 0 where
   field : Opens input → m_of input ≤ 5 → Total input → ¬ (Counted input) → Turned input input_form
   nothing : Opens input → m_of input ≤ 5 → Total input → Counted input → Turned input accepted
 
--- on a refusal every number handed back is 0, except the refusal number
-pub record Nothing (r : Frame) : Type 0 where
-  pub m : r.m ≡ 0
-  pub tolerance : r.tolerance ≡ 0
-
 -- m, and the tolerance in 4 bytes
 pub record Carries (input : List ℕ) (r : Frame) : Type 0 where
   pub m : r.m ≡ m_of input
   pub tolerance : FourAt input 6 r.tolerance
 
--- an answer of `read` follows document 01
-pub record Follows (input : List ℕ) (r : Frame) : Type 0 where
-  pub turned : Turned input r.refusal
-  pub refused : r.refusal ≢ accepted → Nothing r
-  pub framed : r.refusal ≡ accepted → Carries input r
+-- an answer of `read` follows document 01; with a refusal no number is handed back but its own
+pub record Follows (input : List ℕ) (r : Result Frame Refusal) : Type 0 where
+  pub turned : Turned input (number_of r)
+  pub framed : (f : Frame) → r ≡ Ok f → Carries input f
 
 -- z is the height that stands at a place
 pub record HeightAt (input : List ℕ) (i : ℕ) (z : ℤ) : Type 0 where
@@ -95,7 +90,7 @@ pub record RowByRow (input : List ℕ) (survey : List ℤ) : Type 0 where
       let i = p.y * (side (m_of input) + 1) + p.x in HeightAt input i (get_or survey i (pos 0))
 
 -- a call of `heights` follows document 01
-pub record FollowsHeights (h : Handed) (r : ℕ) (survey' : List ℤ) : Type 0 where
-  pub turned : TurnedHeights h r
-  pub refused : r ≢ accepted → survey' ≡ h.survey
-  pub surveyed : r ≡ accepted → RowByRow h.input survey'
+pub record FollowsHeights (h : Handed) (r : Result ⊤ Refusal) (survey' : List ℤ) : Type 0 where
+  pub turned : TurnedHeights h (number_of r)
+  pub refused : number_of r ≢ accepted → survey' ≡ h.survey
+  pub surveyed : number_of r ≡ accepted → RowByRow h.input survey'

@@ -1,5 +1,7 @@
 pub mod Table
 pub mod Sized
+pub mod Refused
+pub mod Alike
 pub mod Level
 pub mod Heights
 pub mod Places

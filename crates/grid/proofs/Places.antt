@@ -1,14 +1,14 @@
 -- Places and points are inverse, a place is below the number of samples, and the place of a midpoint is half the sum of
 -- the places: a place is linear in its point.
-use mathlib.Core.Path.{◌≡◌, refl, sym, ap, ◌∙◌, subst⁻¹}
+use mathlib.Core.Path.{◌≡◌, sym, ap, ◌∙◌}
 use Prim.Native.Nat.{ℕ, ◌+◌, ◌*◌, ◌^◌, ◌/◌, ◌%◌, ◌≤◌, ◌<◌}
 use native.Mathlib.Nat.{mul-add-div_right, mul-add-mod_self_right, div-eq_of_lt, mod-eq_of_lt, div-add-mod', mod-lt, div-lt_iff_lt-mul}
 use native.Mathlib.Nat.{mul-le-mul, mul-le-mul_right, one-mul, mul_assoc, add-mul, add-zero}
 use native.Mathlib.Omega.{arith}
 use lib.Pow.{pow_mono, shl_exact}
-use Rattle.grid.specs.Grid.{side, samples, at, place, point, midplace, Inside, largest, widest, grid_of, Sound}
-use Rattle.grid.specs.declared.Grid.{Grid}
+use Rattle.grid.specs.Grid.{side, samples, at, place, point, midplace, Inside, largest, widest}
 use Rattle.grid.specs.declared.points.Point.{Point}
+use Rattle.grid.specs.declared.Grid.{Grid}
 
 pub side_small : {m : ℕ} → m ≤ largest → side m ≤ widest
 side_small h = pow_mono h
@@ -17,9 +17,9 @@ side_small h = pow_mono h
 pub shifted : {k : ℕ} → k ≤ 2 * largest → 1 * 2 ^ k % 4294967296 ≡ 2 ^ k
 shifted {k} few = shl_exact 1 k 32 (omega arith) (omega arith) ∙ one-mul (2 ^ k)
 
--- the grid of one of the eight sizes
-pub sound : {m : ℕ} {g : Grid} → m ≤ largest → g ≡ grid_of m → Sound g
-sound h e = subst⁻¹ Sound e (record { small = h; sided = refl })
+-- N, by the size that a grid was made of
+pub sided : (g : Grid) {m : ℕ} → g.m ≡ m → g.side ≡ side m
+sided g e = g.sound.sided ∙ ap side e
 
 pub place_below : (m : ℕ) (p : Point) → Inside m p → place m p < samples m
 unfolding place

@@ -1,32 +1,27 @@
 -- What the code is told of a size: refusal 1 where m is above the largest, else what size m holds.
-use mathlib.Core.Path.{◌≡◌, refl}
-use mathlib.Core.Logic.{◌≢◌}
+use mathlib.Core.Path.{◌≡◌, refl, ◌∙◌}
 use Prim.Native.Nat.{ℕ, ◌≤◌, ◌<◌}
-use native.Mathlib.Omega.{arith}
-use native.Mathlib.Decide.{dec_le}
-use borrow.Author.Tests.{le-leb, lt-leb}
-use Rattle.grid.specs.Grid.{largest, samples}
-use Rattle.grid.specs.Refusal.{accepted, size_above}
-use Rattle.grid.specs.Sizes.{size_answer}
-use Rattle.grid.specs.declared.sizes.SizeAnswer.{SizeAnswer}
+use borrow.Author.Tests.{leb-true, leb-false}
+use Rattle.grid.specs.Grid.{largest}
+use Rattle.grid.specs.Sizes.{size_of, size_answer}
+use Rattle.grid.specs.declared.sizes.Size.{Size}
+use Rattle.grid.specs.declared.refusals.Refusal.{Refusal}
+use Rattle.grid.specs.declared.refusals.Refusal.TheVariants.{SizeAbove}
+use Rattle.std.specs.Prelude.{Ok, Err, leb}
+use mathlib.Core.Bool.{Bool, true, false}
 
-module _ (m : ℕ) (a : SizeAnswer) (e : a ≡ size_answer m) where
-  pub above : largest < m → a.refusal ≡ size_above
-  above l = rw (e, lt-leb m largest l)
+-- a size was answered: m is small, and the size is the one that m holds
+pub given : (m : ℕ) {size : Size} → Ok size ≡ size_answer m → (m ≤ largest) × (size ≡ size_of m)
+given m {size} e = go (leb m largest) refl
+  where
+    go : (t : Bool) → leb m largest ≡ t → (m ≤ largest) × (size ≡ size_of m)
+    go true l = (leb-true m largest l, let f : Ok size ≡ Ok (size_of m) = e ∙ rw l refl in cc)
+    go false l = let bad : Ok size ≡ Err SizeAbove = e ∙ rw l refl in cc
 
-  pub within : m ≤ largest → (a.refusal ≡ accepted) × (a.size.samples ≡ samples m)
-  within l = rw (e, le-leb m largest l) (refl, refl)
-
-  pub small : a.refusal ≡ accepted → m ≤ largest
-  small z = go (dec_le m largest)
-    where
-      go : Dec (m ≤ largest) → m ≤ largest
-      go (yes l) = l
-      go (no l) = omega (arith, above (omega arith))
-
-  pub large : a.refusal ≢ accepted → largest < m
-  large z = go (dec_le m largest)
-    where
-      go : Dec (m ≤ largest) → largest < m
-      go (yes l) = absurd (z (within l).0)
-      go (no l) = omega arith
+-- or a refusal: m is above the largest, and the refusal is 1
+pub refused : (m : ℕ) {refusal : Refusal} → Err refusal ≡ size_answer m → (largest < m) × (refusal ≡ SizeAbove)
+refused m {refusal} e = go (leb m largest) refl
+  where
+    go : (t : Bool) → leb m largest ≡ t → (largest < m) × (refusal ≡ SizeAbove)
+    go false l = (leb-false m largest l, let f : Err refusal ≡ Err SizeAbove = e ∙ rw l refl in cc)
+    go true l = let bad : Err refusal ≡ Ok (size_of m) = e ∙ rw l refl in cc

@@ -6,12 +6,15 @@ use mathlib.Core.List.{List, [], ◌∷◌, map}
 use Prim.Native.Nat.{ℕ}
 use lib.IntN.{pos, negsuc}
 use Rattle.grid.specs.Grid.{at, place, point, is_void, in_quarters}
-use Rattle.grid.specs.Refusal.{accepted, size_above, wrong_length, void_corner, tolerance_above, point_beyond, bad_mark, not_closed, no_room, input_form}
+use Rattle.grid.specs.Refusal.{accepted, size_above, wrong_length, void_corner, tolerance_above, point_beyond, bad_mark, not_closed, no_room, input_form, number}
 use Rattle.grid.specs.Mark.{good_mark, kept_mark, filled_mark}
 use Rattle.grid.specs.Sizes.{size_answer}
 use Rattle.grid.specs.Points.{level, spacing, units, is_corner, kind, ends, Pair, pair, depends_on, dependents, rank}
 use Rattle.grid.specs.declared.points.Point.{Point}
-use Rattle.grid.specs.declared.sizes.SizeAnswer.{SizeAnswer}
+use Rattle.grid.specs.declared.sizes.Size.{Size}
+use Rattle.grid.specs.declared.refusals.Refusal.{Refusal}
+use Rattle.grid.specs.declared.refusals.Refusal.TheVariants.{SizeAbove, WrongLength, VoidCorner, ToleranceAbove, PointBeyond, BadMark, NotClosed, NoRoom, InputForm}
+use Rattle.std.specs.Prelude.{Result, Ok, Err}
 
 -- point (x, y) at place y·(N+1)+x, x east, y north
 pub places : map (place 2) (at 0 0 ∷ at 1 0 ∷ at 0 1 ∷ at 3 1 ∷ at 4 4 ∷ []) ≡ 0 ∷ 1 ∷ 5 ∷ 8 ∷ 24 ∷ []
@@ -23,12 +26,12 @@ unfolding point
 points = refl
 
 -- the table of sizes, and what is refused beyond it
-abbrev row : ℕ → ℕ → ℕ → ℕ → SizeAnswer
-row r n s t = record { refusal = r; size = record { side = n; samples = s; triangles = t } }
+abbrev row : ℕ → ℕ → ℕ → Result Size Refusal
+row n s t = Ok (record { side = n; samples = s; triangles = t })
 
 pub sizes : map size_answer (0 ∷ 1 ∷ 2 ∷ 3 ∷ 4 ∷ 5 ∷ 6 ∷ 7 ∷ 8 ∷ 4294967295 ∷ [])
-    ≡ row 0 1 4 2 ∷ row 0 2 9 8 ∷ row 0 4 25 32 ∷ row 0 8 81 128 ∷ row 0 16 289 512 ∷ row 0 32 1089 2048 ∷ row 0 64 4225 8192 ∷
-    row 0 128 16641 32768 ∷ row 1 0 0 0 ∷ row 1 0 0 0 ∷ []
+    ≡ row 1 4 2 ∷ row 2 9 8 ∷ row 4 25 32 ∷ row 8 81 128 ∷ row 16 289 512 ∷ row 32 1089 2048 ∷ row 64 4225 8192 ∷
+    row 128 16641 32768 ∷ Err SizeAbove ∷ Err SizeAbove ∷ []
 sizes = refl
 
 pub quarter_cells : map in_quarters (0 ∷ 1 ∷ 7 ∷ []) ≡ 4 ∷ 8 ∷ 512 ∷ []
@@ -37,6 +40,12 @@ quarter_cells = refl
 pub refusals : accepted ∷ size_above ∷ wrong_length ∷ void_corner ∷ tolerance_above ∷ point_beyond ∷ bad_mark ∷ not_closed ∷ no_room ∷ input_form ∷ []
     ≡ 0 ∷ 1 ∷ 2 ∷ 3 ∷ 4 ∷ 5 ∷ 6 ∷ 7 ∷ 8 ∷ 9 ∷ []
 refusals = refl
+
+-- whatever is needed with 8
+pub numbers : (needed : ℕ) →
+    map number (SizeAbove ∷ WrongLength ∷ VoidCorner ∷ ToleranceAbove ∷ PointBeyond ∷ BadMark ∷ NotClosed ∷ NoRoom needed ∷ InputForm ∷ [])
+    ≡ 1 ∷ 2 ∷ 3 ∷ 4 ∷ 5 ∷ 6 ∷ 7 ∷ 8 ∷ 9 ∷ []
+numbers needed = refl
 
 pub voids : map is_void (negsuc 32767 ∷ negsuc 32766 ∷ negsuc 32768 ∷ pos 0 ∷ pos 32767 ∷ []) ≡ true ∷ false ∷ false ∷ false ∷ false ∷ []
 voids = refl

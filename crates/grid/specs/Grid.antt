@@ -2,7 +2,6 @@
 -- Document 01, "The grid". Definitions only.
 use Rattle.std.specs.Prelude.{Bool, false, List, [], ◌∷◌, ℕ, zero, suc, ◌+◌, ◌*◌, ◌^◌, ◌/◌, ◌%◌, ◌≤◌, eqb, ℤ, pos, negsuc, nat_abs, ◌+ℤ◌, ◌-ℤ◌, ◌≡◌}
 use Rattle.grid.specs.declared.points.Point.{Point}
-use Rattle.grid.specs.declared.Grid.{Grid}
 
 -- heights run from -32767 to 32767
 abbrev pub highest : ℕ
@@ -35,14 +34,10 @@ side m = 2 ^ m
 abbrev pub widest : ℕ
 widest = side largest
 
--- the grid of size m
-abbrev pub grid_of : ℕ → Grid
-grid_of m = record { m = m; side = side m }
-
--- a grid of one of the eight sizes, with its own N
-pub record Sound (g : Grid) : Type 0 where
-  pub small : g.m ≤ largest
-  pub sided : g.side ≡ side g.m
+-- of one of the eight sizes, with its own N
+pub record Sound (m n : ℕ) : Type 0 where
+  pub small : m ≤ largest
+  pub sided : n ≡ side m
 
 -- the grid has (N+1)² samples
 abbrev pub samples : ℕ → ℕ
@@ -68,6 +63,10 @@ point m i = at (i % (side m + 1)) (i / (side m + 1))
 pub record Inside (m : ℕ) (p : Point) : Type 0 where
   pub east : p.x ≤ side m
   pub north : p.y ≤ side m
+
+-- the four grid corners
+abbrev pub corners : ℕ → List Point
+corners m = at 0 0 ∷ at (side m) 0 ∷ at 0 (side m) ∷ at (side m) (side m) ∷ []
 
 -- n entries: f at each number from i
 abbrev pub entries : {A : Type 0} → (ℕ → A) → ℕ → ℕ → List A

@@ -1,5 +1,7 @@
 -- The refusal numbers. Document 01, "What a call may turn down". Definitions only.
 use Rattle.std.specs.Prelude.{ℕ}
+use Rattle.grid.specs.declared.refusals.Refusal.{Refusal}
+use Rattle.grid.specs.declared.refusals.Refusal.TheVariants.{SizeAbove, WrongLength, VoidCorner, ToleranceAbove, PointBeyond, BadMark, NotClosed, NoRoom, InputForm}
 
 -- at 0, which document 01 leaves free, no refusal: the call is accepted
 abbrev pub accepted : ℕ
@@ -41,3 +43,15 @@ no_room = 8
 -- program only: input form
 abbrev pub input_form : ℕ
 input_form = 9
+
+-- the number of each refusal
+abbrev pub number : Refusal → ℕ
+number SizeAbove = size_above
+number WrongLength = wrong_length
+number VoidCorner = void_corner
+number ToleranceAbove = tolerance_above
+number PointBeyond = point_beyond
+number BadMark = bad_mark
+number NotClosed = not_closed
+number (NoRoom needed) = no_room
+number InputForm = input_form

@@ -1,11 +1,13 @@
 -- Document 01's sentences about the spacing, about centre points and about edge points, as records: what the definitions of
 -- `Points` are proved to mean, `Related`, at every point of the square that is no grid corner. And those about places and sizes. Definitions only.
-use Rattle.std.specs.Prelude.{◌≡◌, Bool, true, false, not, ◌⊎◌, ◌↔◌, ℕ, ◌+◌, ◌*◌, ◌^◌, ◌/◌, ◌%◌, ◌≤◌, ◌<◌}
+use Rattle.std.specs.Prelude.{◌≡◌, Bool, true, false, not, ◌⊎◌, ◌↔◌, Result, Ok, Err, ℕ, ◌+◌, ◌*◌, ◌^◌, ◌/◌, ◌%◌, ◌≤◌, ◌<◌}
 use mathlib.Core.List.{List, Memᴰ}
 use Rattle.grid.specs.Grid.{Inside, side, at, place, largest}
 use Rattle.grid.specs.Points.{Pair, pair, both, spacing, ends, depends_on, dependents}
 use Rattle.grid.specs.declared.points.Point.{Point}
-use Rattle.grid.specs.declared.sizes.SizeAnswer.{SizeAnswer}
+use Rattle.grid.specs.declared.sizes.Size.{Size}
+use Rattle.grid.specs.declared.refusals.Refusal.{Refusal}
+use Rattle.grid.specs.Refusal.{number}
 
 -- s is the largest power of two dividing both x and y (zero is divisible by all)
 pub record LargestPower (x y s : ℕ) : Type 0 where
@@ -75,8 +77,8 @@ pub record Related (m : ℕ) (p : Point) : Type 0 where
 abbrev pub AtPlace : ℕ → Point → Type 0
 AtPlace m p = place m p ≡ p.y * (2 ^ m + 1) + p.x
 
--- What is answered for a size. Up to the largest: N = 2^m, (N+1)² samples, at most 2N² triangles. Above it: refusal 1, and every number 0.
-pub data SizeGiven (m : ℕ) (r : SizeAnswer) : Type 0 where
-  held : m ≤ largest → r.refusal ≡ 0 → r.size.side ≡ 2 ^ m → r.size.samples ≡ (2 ^ m + 1) * (2 ^ m + 1) →
-      r.size.triangles ≡ 2 * (2 ^ m * 2 ^ m) → SizeGiven m r
-  above : largest < m → r.refusal ≡ 1 → r.size.side ≡ 0 → r.size.samples ≡ 0 → r.size.triangles ≡ 0 → SizeGiven m r
+-- What is answered for a size. Up to the largest: N = 2^m, (N+1)² samples, at most 2N² triangles. Above it: refusal 1, and no number with it.
+pub data SizeGiven (m : ℕ) : Result Size Refusal → Type 0 where
+  held : {size : Size} → m ≤ largest → size.side ≡ 2 ^ m → size.samples ≡ (2 ^ m + 1) * (2 ^ m + 1) → size.triangles ≡ 2 * (2 ^ m * 2 ^ m) →
+      SizeGiven m (Ok size)
+  above : {refusal : Refusal} → largest < m → number refusal ≡ 1 → SizeGiven m (Err refusal)

@@ -7,15 +7,16 @@ pub mod refusals;
 pub mod sizes;
 
 ghost use Rattle.std.specs.Prelude.{◌≡◌, ◌<◌, ◌≤◌};
-ghost use Rattle.grid.specs.Grid.{Sound, Inside, largest, place, point, samples, midplace, in_quarters, is_void, raise, lower};
+ghost use Rattle.grid.specs.Grid.{Sound, Inside, largest, place, point, samples, midplace, in_quarters, corners, is_void, raise, lower};
 
 use points::Point;
 
-// A grid of size m, with N = 2^m cells a side.
+// A grid of one of the eight sizes, with N = 2^m cells a side.
 #[derive(Clone, Copy)]
 pub struct Grid {
     pub m: u32,
     pub side: u32,
+    pub ghost sound: { Sound m side },
 }
 
 impl Grid {
@@ -26,14 +27,14 @@ impl Grid {
     pub const LARGEST: u32 = 7;
 
     pub fn place(self, p: Point) -> usize
-        requires { Sound self × Inside self.m p }
+        requires { Inside self.m p }
         ensures { result ≡ place self.m p }
     {
         (p.y as usize) * ((self.side as usize) + 1) + (p.x as usize)
     }
 
     pub fn point(self, i: usize) -> Point
-        requires { Sound self × (i < samples self.m) }
+        requires { i < samples self.m }
         ensures { result ≡ point self.m i }
     {
         let row = self.side + 1;
@@ -54,10 +55,21 @@ impl Grid {
 
     // 4N: as far as a point in quarter cells may lie.
     pub fn in_quarters(self) -> u32
-        requires { Sound self }
         ensures { result ≡ in_quarters self.m }
     {
         Grid::QUARTERS * self.side
+    }
+
+    pub fn corners(self) -> [Point; 4]
+        ensures { result ≡ corners self.m }
+    {
+        let n = self.side;
+        [
+            Point { x: 0, y: 0 },
+            Point { x: n, y: 0 },
+            Point { x: 0, y: n },
+            Point { x: n, y: n },
+        ]
     }
 
     pub fn is_void(h: i16) -> bool

@@ -1,6 +1,6 @@
 // Points, what they are, and how far away their ends lie.
 ghost use Rattle.std.specs.Prelude.{◌≡◌, ◌≤◌, ◌<◌};
-ghost use Rattle.grid.specs.Grid.{Sound, Inside, side, widest, samples, point};
+ghost use Rattle.grid.specs.Grid.{Inside, side, widest, samples, point};
 ghost use Rattle.grid.specs.Points.{units, outermost, is_corner, kind, spacing, site};
 ghost use Rattle.grid.specs.Inner.{reach_by};
 
@@ -37,25 +37,21 @@ pub struct Site {
     pub spacing: u32,
 }
 
+// That a point is inside stays a `requires`: it ties the point to the grid, and no field of either could say so.
 fn units_of(g: Grid, p: Point) -> Units
-    requires { Sound g × Inside g.m p }
+    requires { Inside g.m p }
     ensures { result ≡ units g.m p }
 {
-    let mut left = g.m;
     let mut s: u32 = 1;
     let mut a = p.x;
     let mut b = p.y;
-    while left > 0 {
-        if a % 2 == 1 {
+    for _ in 0..g.m {
+        if a % 2 == 1 || b % 2 == 1 {
             break;
         }
-        if b % 2 == 1 {
-            break;
-        }
-        a = a / 2;
-        b = b / 2;
-        s = s * 2;
-        left = left - 1;
+        a /= 2;
+        b /= 2;
+        s *= 2;
     }
     Units {
         spacing: s,
@@ -66,27 +62,19 @@ fn units_of(g: Grid, p: Point) -> Units
 
 // The first or the last column or row.
 fn is_outermost(g: Grid, c: u32) -> bool
-    requires { Sound g }
     ensures { result ≡ outermost g.m c }
 {
-    if c == 0 {
-        return true;
-    }
-    c == g.side
+    c == 0 || c == g.side
 }
 
 fn is_corner(g: Grid, p: Point) -> bool
-    requires { Sound g }
     ensures { result ≡ is_corner g.m p }
 {
-    if is_outermost(g, p.x) {
-        return is_outermost(g, p.y);
-    }
-    false
+    is_outermost(g, p.x) && is_outermost(g, p.y)
 }
 
 fn site_of(g: Grid, p: Point) -> Site
-    requires { Sound g × Inside g.m p }
+    requires { Inside g.m p }
     ensures { result ≡ site g.m p }
 {
     let u = units_of(g, p);
@@ -123,7 +111,7 @@ fn site_of(g: Grid, p: Point) -> Site
 
 // How many places before and behind a point its ends lie: a place is linear in its point.
 pub fn reach_of(g: Grid, kind: Kind, s: u32) -> usize
-    requires { Sound g × (s ≤ widest) }
+    requires { s ≤ widest }
     ensures { result ≡ reach_by kind (side g.m) s }
 {
     let east = s as usize;
@@ -139,7 +127,7 @@ pub fn reach_of(g: Grid, kind: Kind, s: u32) -> usize
 
 // The same of the point at a place.
 pub fn reach_at(g: Grid, i: usize) -> usize
-    requires { Sound g × (i < samples g.m) }
+    requires { i < samples g.m }
     ensures { result ≡ reach_by (kind g.m (point g.m i)) (side g.m) (spacing g.m (point g.m i)) }
 {
     let t = site_of(g, g.point(i));

@@ -1,28 +1,41 @@
-// The refusal numbers, each with its one name.
+// Why a call is turned down, and the number of each refusal.
+ghost use Rattle.grid.specs.Refusal.{number};
 
+// With a want of room goes what is needed: triangles, or a strip's places.
 #[derive(Clone, Copy)]
-pub struct Refusal {
-    pub number: u32,
+pub enum Refusal {
+    SizeAbove,
+    WrongLength,
+    VoidCorner,
+    ToleranceAbove,
+    PointBeyond,
+    BadMark,
+    NotClosed,
+    NoRoom(u32),
+    InputForm,
 }
 
 impl Refusal {
+    // No refusal has this number: an answer that holds it was accepted.
     pub const ACCEPTED: u32 = 0;
+}
 
-    pub const SIZE_ABOVE: u32 = 1;
+impl From<Refusal> for u32 {
+    ghost use Rattle.std.specs.Prelude.{◌≡◌};
 
-    pub const WRONG_LENGTH: u32 = 2;
+    ghost from_gives = { λ refusal r. r ≡ number refusal };
 
-    pub const VOID_CORNER: u32 = 3;
-
-    pub const TOLERANCE_ABOVE: u32 = 4;
-
-    pub const POINT_BEYOND: u32 = 5;
-
-    pub const BAD_MARK: u32 = 6;
-
-    pub const NOT_CLOSED: u32 = 7;
-
-    pub const NO_ROOM: u32 = 8;
-
-    pub const INPUT_FORM: u32 = 9;
+    fn from(refusal: Refusal) -> u32 {
+        match refusal {
+            Refusal::SizeAbove => 1,
+            Refusal::WrongLength => 2,
+            Refusal::VoidCorner => 3,
+            Refusal::ToleranceAbove => 4,
+            Refusal::PointBeyond => 5,
+            Refusal::BadMark => 6,
+            Refusal::NotClosed => 7,
+            Refusal::NoRoom(_) => 8,
+            Refusal::InputForm => 9,
+        }
+    }
 }

@@ -1,6 +1,6 @@
 // The eight sizes and what each holds.
 ghost use Rattle.std.specs.Prelude.{◌≡◌, ◌≤◌};
-ghost use Rattle.grid.specs.Grid.{largest, grid_of};
+ghost use Rattle.grid.specs.Grid.{largest};
 ghost use Rattle.grid.specs.Sizes.{size_answer};
 
 use super::Grid;
@@ -12,12 +12,6 @@ pub struct Size {
     pub side: u32,
     pub samples: u32,
     pub triangles: u32,
-}
-
-#[derive(Clone, Copy)]
-pub struct SizeAnswer {
-    pub refusal: u32,
-    pub size: Size,
 }
 
 const SIZES: [Size; 8] = [
@@ -63,32 +57,21 @@ const SIZES: [Size; 8] = [
     },
 ];
 
-// The size m holds, or refusal 1.
-pub fn size_of(m: u32) -> SizeAnswer
+// What size m holds, or that it is above the largest.
+pub fn size_of(m: u32) -> Result<Size, Refusal>
     ensures { result ≡ size_answer m }
 {
     if m <= Grid::LARGEST {
-        let row = SIZES[m as usize];
-        SizeAnswer {
-            refusal: Refusal::ACCEPTED,
-            size: row,
-        }
+        Ok(SIZES[m as usize])
     } else {
-        SizeAnswer {
-            refusal: Refusal::SIZE_ABOVE,
-            size: Size {
-                side: 0,
-                samples: 0,
-                triangles: 0,
-            },
-        }
+        Err(Refusal::SizeAbove)
     }
 }
 
 // The grid of one of the eight sizes.
 pub fn grid_of(m: u32) -> Grid
     requires { m ≤ largest }
-    ensures { result ≡ grid_of m }
+    ensures { result.m ≡ m }
 {
     Grid { m, side: 1u32 << m }
 }

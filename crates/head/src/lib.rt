@@ -12,7 +12,7 @@ use mesh::Meshed;
 use selection::Selected;
 use strip::Stripped;
 
-// A height as it crosses to C. Kind 0 is a refusal, with its number as the bits; 1 a surveyed height and 2 a filled one, with the f32's bits.
+// A height as it crosses to C, which has no enum with values: the number of its kind, and bits.
 #[repr(C)]
 #[derive(Clone, Copy)]
 pub struct Crossed {
@@ -20,11 +20,12 @@ pub struct Crossed {
     pub bits: u32,
 }
 
-const REFUSED: u32 = 0;
-
-const SURVEYED: u32 = 1;
-
-const FILLED: u32 = 2;
+// A refusal, with its number as the bits, or a surveyed or a filled height, with the f32's bits.
+enum Kind {
+    Refused = 0,
+    Surveyed = 1,
+    Filled = 2,
+}
 
 #[unsafe(no_mangle)]
 pub extern "C" fn mosskirtle_select(
@@ -63,18 +64,18 @@ pub extern "C" fn mosskirtle_height(
 ) -> Crossed
     ensures { Crosses (asking marks.now heights.now m x y) result }
 {
-    let answer = aim::height(marks, heights, m, x, y);
-    match answer {
+    // Stays a match, no `From`: that may ask nothing of its caller, and a float that is a NaN has no bits.
+    match aim::height(marks, heights, m, x, y) {
         HeightAnswer::Surveyed(height) => Crossed {
-            kind: SURVEYED,
-            bits: f32::to_bits(height),
+            kind: Kind::Surveyed as u32,
+            bits: height.to_bits(),
         },
         HeightAnswer::Filled(height) => Crossed {
-            kind: FILLED,
-            bits: f32::to_bits(height),
+            kind: Kind::Filled as u32,
+            bits: height.to_bits(),
         },
         HeightAnswer::Refused(number) => Crossed {
-            kind: REFUSED,
+            kind: Kind::Refused as u32,
             bits: number,
         },
     }

@@ -13,6 +13,8 @@ use mesh::Meshed;
 use selection::Selected;
 use strip::Stripped;
 
+// Each stays a call beside head's: a crate is a library or a static library, and what C links to must be exported here.
+
 #[unsafe(no_mangle)]
 pub extern "C" fn mosskirtle_select(
     survey: &[i16],

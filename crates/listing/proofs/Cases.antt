@@ -1,6 +1,6 @@
 -- The refusal, the answer and the places of an input by cases: where nothing is turned down and where something is. No law elsewhere
 -- opens their definitions.
-use mathlib.Core.Path.{◌≡◌, sym, ap, ◌∙◌}
+use mathlib.Core.Path.{◌≡◌, sym, ◌∙◌}
 use mathlib.Core.Logic.{◌≢◌}
 use mathlib.Core.List.{List, []}
 use Prim.Native.Nat.{ℕ}
@@ -11,11 +11,8 @@ use Rattle.frame.specs.Frame.{size_in}
 use Rattle.frame.specs.Frame.{refusal as form_refusal}
 use Rattle.selection.specs.Selected.{refusal as selection_refusal}
 use Rattle.mesh.specs.Triangles.{mesh, places_of, number}
-use Rattle.mesh.specs.declared.Meshed.{Meshed}
+use Rattle.std.specs.Prelude.{Ok, Err}
 use Rattle.listing.specs.Program.{selected, refusal, kept_in, answer_in, places_in}
-
-abbrev pub turned_down : ℕ → Meshed
-turned_down n = record { refusal = n; triangles = 0 }
 
 module _ (input : List ℕ) where
   -- the input's own refusal
@@ -28,7 +25,7 @@ module _ (input : List ℕ) where
   unfolding refusal
   refusal_selection e = rw (eq-eqb (form_refusal input) accepted e)
 
-  pub answer_taken : refusal input ≡ accepted → answer_in input ≡ record { refusal = accepted; triangles = number (size_in input) (kept_in input) }
+  pub answer_taken : refusal input ≡ accepted → answer_in input ≡ Ok (number (size_in input) (kept_in input))
   unfolding answer_in
   answer_taken e = rw (eq-eqb (refusal input) accepted e)
 
@@ -36,21 +33,13 @@ module _ (input : List ℕ) where
   unfolding places_in
   places_taken e = rw (eq-eqb (refusal input) accepted e)
 
-  pub answer_refused : refusal input ≢ accepted → answer_in input ≡ turned_down (refusal input)
+  pub answer_refused : refusal input ≢ accepted → answer_in input ≡ Err (refusal input)
   unfolding answer_in
   answer_refused n = rw (ne_eqb (refusal input) accepted n)
 
   pub places_refused : refusal input ≢ accepted → places_in input ≡ []
   unfolding places_in
   places_refused n = rw (ne_eqb (refusal input) accepted n)
-
-  -- the answer carries the refusal number
-  pub answer_refusal : (answer_in input).refusal ≡ refusal input
-  answer_refusal = by (ℕ_discrete (refusal input) accepted)
-    where
-      by : Dec (refusal input ≡ accepted) → (answer_in input).refusal ≡ refusal input
-      by (yes e) = ap (λ (a : Meshed). a.refusal) (answer_taken e) ∙ sym e
-      by (no n) = ap (λ (a : Meshed). a.refusal) (answer_refused n)
 
   -- an accepted input is of the right form
   pub formed : refusal input ≡ accepted → form_refusal input ≡ accepted

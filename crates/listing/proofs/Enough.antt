@@ -20,6 +20,8 @@ use Rattle.mesh.specs.Meshed.{refusal as mesh_refusal}
 use Rattle.mesh.proofs.Answered.{places_written}
 use Rattle.mesh.proofs.Answered.{answer_taken as mesh_taken}
 use Rattle.mesh.proofs.Selected.{selected_room, room_enough}
+use Rattle.mesh.specs.declared.Meshed.{Meshed}
+use Rattle.std.specs.Prelude.{Ok}
 use Rattle.listing.specs.Program.{selected, refusal, answer_in, places_in}
 use Rattle.listing.specs.Inner.{Roomy}
 use Rattle.listing.proofs.Cases.{refusal_selection, answer_taken, places_taken, formed}
@@ -48,8 +50,10 @@ module _ (input places : List ℕ) (room : Roomy places) (ok : refusal input ≡
   taken : mesh_refusal (meshed input places) ≡ accepted
   taken = selected_room selects answered places fits
 
-  pub enough_answer : answer_of (meshed input places) ≡ answer_in input
-  enough_answer = mesh_taken (meshed input places) taken ∙ sym (answer_taken input ok)
+  pub enough_answer : {t : Meshed} → t ≡ answer_of (meshed input places) → (t.refusal ≡ accepted) × (Ok t.triangles ≡ answer_in input)
+  enough_answer e =
+      let is = e ∙ mesh_taken (meshed input places) taken in
+      (ap (λ (t : Meshed). t.refusal) is, (λ i. Ok (is i).triangles) ∙ sym (answer_taken input ok))
 
   pub enough_places : places_after (meshed input places) ≡ written_over (places_in input) places
   enough_places = places_written (meshed input places) taken ∙ ap (λ l. written_over l places) (sym (places_taken input ok))

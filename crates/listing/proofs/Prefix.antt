@@ -8,19 +8,18 @@ use native.Mathlib.Omega.{arith}
 use native.Mathlib.Decide.{ℕ_discrete}
 use lib.Seq.{take_all}
 use Rattle.grid.specs.Refusal.{accepted}
-use Rattle.frame.specs.Frame.{longest}
+use Rattle.std.specs.Prelude.{Err}
+use Rattle.frame.specs.Frame.{longest, number_of}
 use Rattle.frame.specs.Frame.{refusal as form_refusal}
-use Rattle.frame.specs.declared.Frame.{Frame}
 use Rattle.frame.proofs.Accepted.{accepted_input}
-use Rattle.frame.proofs.Answered.{answer_refusal}
 use Rattle.frame.proofs.Seen.{seen, seen_answer, total_most}
 use Rattle.listing.specs.Program.{refusal}
 use Rattle.listing.specs.Text.{text_of, text_in}
-use Rattle.listing.proofs.Cases.{turned_down, refusal_form, answer_refused, places_refused}
+use Rattle.listing.proofs.Cases.{refusal_form, answer_refused, places_refused}
 
 module _ (input : List ℕ) where
   same : form_refusal (seen input) ≡ form_refusal input
-  same = sym (answer_refusal (seen input)) ∙ ap (λ (a : Frame). a.refusal) (seen_answer input) ∙ answer_refusal input
+  same = ap number_of (seen_answer input)
 
   whole : form_refusal input ≡ accepted → seen input ≡ input
   whole e =
@@ -40,6 +39,6 @@ module _ (input : List ℕ) where
           let e = alike n in
           let other : refusal input ≢ accepted = λ k. n (sym (refusal_form input n) ∙ k) in
           let down : refusal (seen input) ≢ accepted = λ k. other (sym e ∙ k) in
-          let answer = answer_refused (seen input) down ∙ ap turned_down e ∙ sym (answer_refused input other) in
+          let answer = answer_refused (seen input) down ∙ ap Err e ∙ sym (answer_refused input other) in
           let places = places_refused (seen input) down ∙ sym (places_refused input other) in
           λ i. text_of (answer i) (places i)

@@ -3,12 +3,10 @@
 use mathlib.Core.Path.{◌≡◌, refl, sym, ap, ◌∙◌}
 use mathlib.Core.List.{List, [], ◌∷◌, ◌++◌}
 use Prim.Native.Nat.{ℕ, zero, suc, ◌+◌, ◌*◌, ◌/◌, ◌%◌, ◌≤◌, ◌<◌}
-use native.Mathlib.Decide.{ℕ_discrete, dec_le}
+use native.Mathlib.Decide.{dec_le}
 use native.Mathlib.Omega.{arith}
 use lib.ListN.{get_or}
-use borrow.Author.Tests.{ne_eqb}
-use Rattle.grid.specs.Refusal.{accepted}
-use Rattle.mesh.specs.declared.Meshed.{Meshed}
+use Rattle.std.specs.Prelude.{Result, Ok, Err}
 use Rattle.listing.specs.Text.{digit as code, decimal_of, lines_of, text_of}
 use Rattle.listing.specs.Rule.{Spells, digit, digits, Line, Lines, none, more, Printed, refused, listed}
 use Rattle.listing.proofs.Spelt.{one_digit, more_digits}
@@ -57,16 +55,13 @@ unfolding lines_of
 lines_only none = refl
 lines_only (more s l e) = e ∙ (λ i. lines_only s i ++ line_only l i)
 
-pub printed : (r : Meshed) (places : List ℕ) → Printed r places (text_of r places)
+pub printed : (r : Result ℕ ℕ) (places : List ℕ) → Printed r places (text_of r places)
 unfolding text_of
-printed r places = by (ℕ_discrete r.refusal accepted)
-  where
-    by : Dec (r.refusal ≡ accepted) → Printed r places (text_of r places)
-    by (yes e) = listed e (spells r.triangles) (lines_are places r.triangles) (rw e)
-    by (no n) = refused n (spells r.refusal) (rw (ne_eqb r.refusal accepted n))
+printed (Ok n) places = listed refl (spells n) (lines_are places n) refl
+printed (Err n) places = refused refl (spells n) refl
 
-pub printed_only : {r : Meshed} {places text : List ℕ} → Printed r places text → text ≡ text_of r places
+pub printed_only : {r : Result ℕ ℕ} {places text : List ℕ} → Printed r places text → text ≡ text_of r places
 unfolding text_of
-printed_only {r} (refused n s e) =
-    e ∙ (λ i. 114 ∷ 101 ∷ 102 ∷ 117 ∷ 115 ∷ 101 ∷ 100 ∷ 32 ∷ (spells_only s i ++ 10 ∷ [])) ∙ rw (ne_eqb r.refusal accepted n)
-printed_only {r} (listed k s l e) = e ∙ (λ i. 84 ∷ 32 ∷ ((spells_only s i ++ 10 ∷ []) ++ lines_only l i)) ∙ rw k
+printed_only {places} (refused k s e) =
+    e ∙ (λ i. 114 ∷ 101 ∷ 102 ∷ 117 ∷ 115 ∷ 101 ∷ 100 ∷ 32 ∷ (spells_only s i ++ 10 ∷ [])) ∙ ap (λ r. text_of r places) (sym k)
+printed_only {places} (listed k s l e) = e ∙ (λ i. 84 ∷ 32 ∷ ((spells_only s i ++ 10 ∷ []) ++ lines_only l i)) ∙ ap (λ r. text_of r places) (sym k)

@@ -1,6 +1,6 @@
 -- The places hold all the triangles that are answered, and these are no more than the largest size has: so their lines find room. And the
 -- lines are read from the places that were written alone: so what is printed does not depend on what the buffer held before.
-use mathlib.Core.Path.{◌≡◌, refl, sym, ap, ◌∙◌}
+use mathlib.Core.Path.{◌≡◌, refl, sym, ap, ◌∙◌, subst}
 use mathlib.Core.List.{List, ◌++◌}
 use Prim.Native.Nat.{ℕ, zero, suc, ◌+◌, ◌*◌, ◌≤◌, ◌<◌}
 use native.Mathlib.Omega.{arith}
@@ -10,19 +10,21 @@ use Rattle.grid.specs.Refusal.{accepted}
 use Rattle.grid.specs.Sizes.{size_of}
 use Rattle.frame.specs.Frame.{largest_framed, size_in}
 use Rattle.frame.proofs.Accepted.{accepted_input}
-use Rattle.mesh.specs.Meshed.{entries_each}
+use Rattle.std.specs.Prelude.{Result, Ok, Err}
+use Rattle.mesh.specs.Meshed.{entries_each, written_over, Meshes}
 use Rattle.mesh.specs.Triangles.{mesh}
 use Rattle.mesh.specs.declared.Meshed.{Meshed}
 use Rattle.mesh.proofs.Rule.{AsRead, as_read, told}
-use Rattle.mesh.proofs.Halves.{put_over}
 use Rattle.mesh.proofs.Written.{places_long}
 use Rattle.listing.specs.Program.{refusal, kept_in, places_in}
 use Rattle.listing.specs.Text.{line_at, lines_of, text_of, text_in, Prints}
-use Rattle.listing.specs.Inner.{Roomy, Lists, Puts}
-use Rattle.listing.proofs.Cases.{answer_refused, answer_refusal, places_taken, formed}
+use Rattle.mesh.specs.Inner.{Put}
+use Rattle.mesh.proofs.Halves.{put_over}
+use Rattle.listing.specs.declared.Text.{Text}
+use Rattle.listing.specs.Inner.{Roomy, Lists, Adds, triangles_in}
+use Rattle.listing.proofs.Cases.{answer_refused, places_taken, formed}
 use Rattle.listing.proofs.Enough.{meshed, triangles_most}
-use Rattle.listing.proofs.Joined.{same_text}
-use Rattle.listing.proofs.Steps.{lists_meshes}
+use Rattle.listing.proofs.Steps.{meshed_answer, lists_meshes}
 
 -- a line, and so many lines, are read from the entries in front
 line_front : (front behind : List ℕ) (i : ℕ) → i + entries_each ≤ length front → line_at (front ++ behind) i ≡ line_at front i
@@ -38,42 +40,49 @@ lines_front front behind zero l = refl
 lines_front front behind (suc n) l =
     λ i. lines_front front behind n (omega arith) i ++ line_front front behind (entries_each * n) (omega arith) i
 
-text_front : (r : Meshed) (front behind : List ℕ) → entries_each * r.triangles ≤ length front → text_of r (front ++ behind) ≡ text_of r front
+text_front : (r : Result ℕ ℕ) (front behind : List ℕ) → entries_each * triangles_in r ≤ length front → text_of r (front ++ behind) ≡ text_of r front
 unfolding text_of
-text_front r front behind l = rw (lines_front front behind r.triangles l)
+text_front (Ok triangles) front behind l = rw (lines_front front behind triangles l)
+text_front (Err number) front behind l = refl
 
-module _ {input places : List ℕ} (room : Roomy places) {r : Meshed} {places' : List ℕ} (s : Lists input places r places') where
+module _ {input places : List ℕ} (room : Roomy places) {r : Result ℕ ℕ} {places' : List ℕ} (s : Lists input places r places') where
   -- accepted: as many triangles as are cut, and all of them listed
   module _ (ok : refusal input ≡ accepted) where
-    number : r.refusal ≡ accepted
-    number = ap (λ (a : Meshed). a.refusal) s.answer ∙ answer_refusal input ∙ ok
+    answer : Meshed
+    answer = meshed_answer input places
 
-    read : AsRead (meshed input places) r places'
-    read = as_read (lists_meshes input places room ok s) number
+    whole : Meshes (meshed input places) answer places' × (answer.refusal ≡ accepted) × (r ≡ Ok answer.triangles)
+    unfolding answer
+    whole = lists_meshes input places room ok s
 
-    listed : entries_each * r.triangles ≡ length (places_in input)
+    many : triangles_in r ≡ answer.triangles
+    many = ap triangles_in whole.2
+
+    read : AsRead (meshed input places) answer places'
+    read = as_read whole.0 whole.1
+
+    listed : entries_each * triangles_in r ≡ length (places_in input)
     listed =
-        ap (λ n. entries_each * n) read.many ∙ sym (places_long (size_in input) (mesh (size_in input) (kept_in input)))
+        ap (λ n. entries_each * n) (many ∙ read.many) ∙ sym (places_long (size_in input) (mesh (size_in input) (kept_in input)))
         ∙ ap length (sym (places_taken input ok))
 
-    few : r.triangles ≤ (size_of largest_framed).triangles
-    few =
-        omega (arith, (told (lists_meshes input places room ok s) number).most, triangles_most (accepted_input input (formed input ok)).small)
+    few : triangles_in r ≤ (size_of largest_framed).triangles
+    few = omega (arith, many, (told whole.0 whole.1).most, triangles_most (accepted_input input (formed input ok)).small)
 
-  none : ¬ (refusal input ≡ accepted) → r.triangles ≡ 0
-  none n = ap (λ (a : Meshed). a.triangles) (s.answer ∙ answer_refused input n)
+  none : ¬ (refusal input ≡ accepted) → triangles_in r ≡ 0
+  none n = ap triangles_in (s.answer ∙ answer_refused input n)
 
-  pub held : (r.triangles ≤ (size_of largest_framed).triangles) × (entries_each * r.triangles ≤ length places')
+  pub held : (triangles_in r ≤ (size_of largest_framed).triangles) × (entries_each * triangles_in r ≤ length places')
   held = by (ℕ_discrete (refusal input) accepted)
     where
-      by : Dec (refusal input ≡ accepted) → (r.triangles ≤ (size_of largest_framed).triangles) × (entries_each * r.triangles ≤ length places')
-      by (yes ok) = (few ok, omega (arith, (read ok).many, (read ok).long))
+      by : Dec (refusal input ≡ accepted) → (triangles_in r ≤ (size_of largest_framed).triangles) × (entries_each * triangles_in r ≤ length places')
+      by (yes ok) = (few ok, omega (arith, many ok, (read ok).many, (read ok).long))
       by (no n) = (omega (arith, none n), omega (arith, none n))
 
-  all : entries_each * r.triangles ≤ length (places_in input)
+  all : entries_each * triangles_in r ≤ length (places_in input)
   all = by (ℕ_discrete (refusal input) accepted)
     where
-      by : Dec (refusal input ≡ accepted) → entries_each * r.triangles ≤ length (places_in input)
+      by : Dec (refusal input ≡ accepted) → entries_each * triangles_in r ≤ length (places_in input)
       by (yes ok) = omega (arith, listed ok)
       by (no n) = omega (arith, none n)
 
@@ -83,7 +92,11 @@ module _ {input places : List ℕ} (room : Roomy places) {r : Meshed} {places' :
       ap (text_of r) s.written ∙ text_front r (places_in input) (drop (length (places_in input)) places) all
       ∙ ap (λ a. text_of a (places_in input)) s.answer
 
-  -- so the text put is the input's, over the beginning of the buffer
-  pub prints : {most n : ℕ} {out out' : List ℕ} → Puts most out 0 (text_of r places') out' n → most ≤ length out → Prints input out n out'
-  prints {out} p fits =
-      let q = same_text text_listed p in record { answer = omega (arith, q.put.behind); written = put_over q.put (omega (arith, q.short, fits)) }
+  -- so the text written from the beginning of a buffer with room for it is the input's
+  pub prints : {most : ℕ} {t u : Text} → Adds most (text_of r places') t u → t.at ≡ 0 → most ≤ length t.out.now → Prints input t.out.now u.at u.out.now
+  prints {t} {u} p start fits =
+      let put = subst (λ i. Put (text_of r places') i t.out.now u.at u.out.now) start p.put in
+      record {
+        answer = omega (arith, put.behind, ap length text_listed);
+        written = put_over put (omega (arith, p.short, fits)) ∙ ap (λ l. written_over l t.out.now) text_listed;
+      }

@@ -9,17 +9,19 @@ use native.Mathlib.Omega.{arith}
 use native.Mathlib.Decide.{ℕ_discrete}
 use lib.ListN.{replicate, length-replicate}
 use lib.IntN.{pos}
+use borrow.Author.Tests.{eq-eqb}
+use Rattle.std.specs.Prelude.{Result, Ok, Err}
 use Rattle.grid.specs.Grid.{samples}
-use Rattle.grid.specs.Refusal.{accepted}
+use Rattle.grid.specs.Refusal.{accepted, number}
 use Rattle.grid.specs.Sizes.{size_of}
-use Rattle.frame.specs.Frame.{largest_framed, size_in, tolerance_in, survey_in, Surveys}
-use Rattle.frame.specs.Frame.{handed as reading, refusal as form_refusal}
-use Rattle.frame.specs.Rule.{Turned, Follows, none}
+use Rattle.grid.specs.declared.refusals.Refusal.{Refusal}
+use Rattle.frame.specs.Frame.{largest_framed, number_of, size_in, framed, survey_in}
+use Rattle.frame.specs.Frame.{answer_of as frame_answer, refusal as form_refusal}
+use Rattle.frame.specs.Rule.{Follows}
 use Rattle.frame.specs.declared.Frame.{Frame}
-use Rattle.frame.proofs.Accepted.{turned_only}
-use Rattle.frame.proofs.Answered.{answering}
-use Rattle.frame.proofs.Answered.{answer_taken as frame_taken, answer_refused as frame_refused}
-use Rattle.frame.proofs.Rule.{follows, follows_heights, row_by_row}
+use Rattle.grid.proofs.Refused.{refused}
+use Rattle.frame.proofs.Accepted.{accepted_input}
+use Rattle.frame.proofs.Rule.{follows, row_by_row, rows_only}
 use Rattle.selection.specs.Selected.{marks_after, heights_after}
 use Rattle.selection.specs.Selected.{answer_of as selection_answer}
 use Rattle.selection.specs.declared.Selected.{Selected}
@@ -30,39 +32,36 @@ use Rattle.mesh.specs.Meshed.{handed as meshing}
 use Rattle.mesh.specs.declared.Meshed.{Meshed}
 use Rattle.listing.specs.Program.{selected, refusal, answer_in, places_in}
 use Rattle.listing.specs.Text.{text_of, text_in}
-use Rattle.listing.specs.Inner.{Roomy, Ready, Lists}
-use Rattle.listing.specs.Rule.{Refuses, Selecting, Runs, form, selection, triangles, Printed, Shows}
-use Rattle.listing.proofs.Cases.{turned_down, refusal_form, refusal_selection, answer_refused, answer_refusal, places_refused}
-use Rattle.listing.proofs.Steps.{lists_refused, lists_meshes, refused_in, meshed_in}
+use Rattle.listing.specs.Inner.{Roomy, Lists}
+use Rattle.listing.specs.Rule.{Refuses, Selecting, result_of, Runs, form, selection, triangles, Printed, Shows}
+use Rattle.listing.proofs.Cases.{refusal_form, refusal_selection, answer_refused, places_refused}
+use Rattle.listing.proofs.Steps.{meshed_answer, input_refused, lists_meshes, refused_in, meshed_in}
 use Rattle.listing.proofs.Printed.{printed, printed_only}
 use Rattle.listing.proofs.Room.{text_listed}
 
--- what is listed follows the sentences
-module _ {input places : List ℕ} (room : Roomy places) {r : Meshed} {places' : List ℕ} (s : Lists input places r places') where
-  number : r.refusal ≡ refusal input
-  number = ap (λ (a : Meshed). a.refusal) s.answer ∙ answer_refusal input
+-- the call of triangles, where it turns nothing down
+taken : (t : Meshed) → t.refusal ≡ accepted → result_of t ≡ Ok t.triangles
+taken t e = rw (eq-eqb t.refusal accepted e)
 
+-- what is listed follows the sentences
+module _ {input places : List ℕ} (room : Roomy places) {r : Result ℕ ℕ} {places' : List ℕ} (s : Lists input places r places') where
   refuses : {n : ℕ} → refusal input ≡ n → n ≢ accepted → Refuses n places r places'
   refuses e n =
       let other : refusal input ≢ accepted = λ z. n (sym e ∙ z) in
       record {
-        number = number ∙ e;
-        none = ap (λ (a : Meshed). a.triangles) (s.answer ∙ answer_refused input other);
+        number = s.answer ∙ answer_refused input other ∙ ap Err e;
         untouched = s.written ∙ ap (λ l. written_over l places) (places_refused input other);
       }
 
   module _ (ok : form_refusal input ≡ accepted) where
-    -- the frame, and selection of it
-    abbrev frame : Frame
-    frame = answering accepted (size_in input) (tolerance_in input)
-
+    -- selection of what an accepted input carries
     abbrev answer : Selected
     answer = selection_answer (selected input)
 
-    carried : Follows input frame
-    carried = (follows input).0 (sym (frame_taken input ok))
+    carried : Follows input (Ok (framed input))
+    carried = (follows input).0 (sym (accepted_input input ok).carried)
 
-    selecting : Selecting input frame answer (marks_after (selected input))
+    selecting : Selecting input (framed input) answer (marks_after (selected input))
     selecting =
         let n = samples (size_in input) in
         record {
@@ -80,66 +79,54 @@ module _ {input places : List ℕ} (room : Roomy places) {r : Meshed} {places' :
     number_selection = refusal_selection input ok ∙ sym (selection_refusal (selected input))
 
     past : Dec (answer.refusal ≡ accepted) → Runs input places r places'
-    past (no n) = selection carried refl selecting n (refuses number_selection n)
+    past (no n) = selection carried selecting n (refuses number_selection n)
     past (yes e) =
         let marked = marks_taken (selected input) (sym (selection_refusal (selected input)) ∙ e) in
-        let whole = lists_meshes input places room (number_selection ∙ e) s in
-        triangles carried refl selecting e (subst (λ marks. Meshes (meshing marks (size_in input) places) r places') (sym marked) whole)
+        let ok = number_selection ∙ e in
+        let whole = lists_meshes input places room ok s in
+        let t = meshed_answer input places in
+        triangles carried selecting e
+        (subst (λ marks. Meshes (meshing marks (size_in input) places) t places') (sym marked) whole.0)
+        (whole.2 ∙ sym (taken t whole.1))
 
   pub lists_runs : Runs input places r places'
-  lists_runs = by (ℕ_discrete (form_refusal input) accepted)
+  lists_runs = by (frame_answer input) refl
     where
-      by : Dec (form_refusal input ≡ accepted) → Runs input places r places'
-      by (yes ok) = past ok (ℕ_discrete (selection_answer (selected input)).refusal accepted)
-      by (no n) = form ((follows input).0 (sym (frame_refused input n))) n (refuses (refusal_form input n) n)
+      by : (a : Result Frame Refusal) → frame_answer input ≡ a → Runs input places r places'
+      by (Err e) k =
+          let n = refused e in
+          let own : form_refusal input ≡ number e = ap number_of k in
+          form ((follows input).0 (sym k)) (refuses (refusal_form input (λ z. n (sym own ∙ z)) ∙ own) n)
+      by (Ok f) k = past (ap number_of k) (ℕ_discrete (selection_answer (selected input)).refusal accepted)
 
 -- and whatever follows them is listed: the code's own steps are such a run, so the laws of its steps serve here too
-module _ {input : List ℕ} {f : Frame} (k : Follows input f) where
-  given : f.refusal ≡ form_refusal input
-  given = turned_only input k.turned
+module _ {input : List ℕ} {f : Frame} (k : Follows input (Ok f)) {a : Selected} {marks' : List ℕ} (c : Selecting input f a marks') where
+  given : frame_answer input ≡ Ok f
+  given = sym ((follows input).1 k)
 
-  module _ (e : f.refusal ≡ accepted) {a : Selected} {marks' : List ℕ} (c : Selecting input f a marks') where
-    ready : Ready input f.m f.tolerance c.survey c.marks c.heights
-    ready =
-        let ok = sym given ∙ e in
-        let taken = (follows input).1 k ∙ frame_taken input ok in
-        let size : f.m ≡ size_in input = ap (λ (f : Frame). f.m) taken in
-        record {
-          accepts = ok;
-          size = size;
-          tolerated = ap (λ (f : Frame). f.tolerance) taken;
-          survey_long = c.rows.long ∙ ap samples (sym size);
-          marks_long = c.marks_long;
-          heights_long = c.heights_long;
-        }
+  surveyed : c.survey ≡ survey_in input
+  surveyed = rows_only c.rows
 
-    surveys : Surveys (reading input c.survey) accepted c.survey
-    surveys =
-        follows_heights.1
-        (record {
-          turned = none (subst (Turned input) e k.turned) c.rows.long;
-          refused = λ n. absurd (n refl);
-          surveyed = λ z. c.rows;
-        })
+  selection_lists : (places : List ℕ) → a.refusal ≢ accepted → Lists input places (Err a.refusal) places
+  selection_lists places = refused_in input given surveyed c.marks c.heights c.marks_long c.heights_long c.selects places
 
-refused_is : {n : ℕ} {places : List ℕ} {r : Meshed} {places' : List ℕ} → Refuses n places r places' → r ≡ turned_down n
-refused_is d = λ i. record { refusal = d.number i; triangles = d.none i }
+  triangles_list : a.refusal ≡ accepted → (places : List ℕ) → Roomy places → {t : Meshed} {places' : List ℕ} →
+      Meshes (meshing marks' f.m places) t places' → (t.refusal ≡ accepted) × Lists input places (Ok t.triangles) places'
+  triangles_list = meshed_in input given surveyed c.marks c.heights c.marks_long c.heights_long c.selects
 
-pub runs_lists : {input places : List ℕ} {r : Meshed} {places' : List ℕ} → Roomy places → Runs input places r places' →
+pub runs_lists : {input places : List ℕ} {r : Result ℕ ℕ} {places' : List ℕ} → Roomy places → Runs input places r places' →
     Lists input places r places'
-runs_lists {input} {places} {r} room (form k n d) =
-    let e = given k ∙ sym (refusal_form input (λ z. n (given k ∙ z))) in
-    subst (Lists input places r) (sym d.untouched) (lists_refused input places e n (refused_is d))
-runs_lists {input} {places} {r} room (selection k e c n d) =
-    subst (Lists input places r) (sym d.untouched)
-    (refused_in (ready k e c) (surveys k e c) c.selects places n (refused_is d))
-runs_lists {input} {places} room (triangles k e c z t) = meshed_in (ready k e c) (surveys k e c) c.selects z places room t
+runs_lists {input} {places} room (form {e} k d) =
+    rw (d.number, d.untouched) (input_refused input places (sym ((follows input).1 k)))
+runs_lists {input} {places} room (selection k c n d) = rw (d.number, d.untouched) (selection_lists k c places n)
+runs_lists {input} {places} room (triangles {t = a} k c z t e) =
+    let listed = triangles_list k c z places room t in rw (e ∙ taken a listed.0) listed.1
 
-pub runs : {input places : List ℕ} {r : Meshed} {places' : List ℕ} → Roomy places → Lists input places r places' ↔ Runs input places r places'
+pub runs : {input places : List ℕ} {r : Result ℕ ℕ} {places' : List ℕ} → Roomy places → Lists input places r places' ↔ Runs input places r places'
 runs room = (lists_runs room, runs_lists room)
 
 -- what is printed of two runs is the same, whatever their places held
-pub runs_alike : {input a b : List ℕ} → Roomy a → Roomy b → {r s : Meshed} {a' b' : List ℕ} → Runs input a r a' → Runs input b s b' →
+pub runs_alike : {input a b : List ℕ} → Roomy a → Roomy b → {r s : Result ℕ ℕ} {a' b' : List ℕ} → Runs input a r a' → Runs input b s b' →
     text_of r a' ≡ text_of s b'
 runs_alike room_a room_b p q = text_listed room_a (runs_lists room_a p) ∙ sym (text_listed room_b (runs_lists room_b q))
 

@@ -1,6 +1,6 @@
 -- What the program answers of an input: the refusal's number, or the count of triangles and their places. Document 01, "The program". How they are
 -- printed is `Text`. Definitions only.
-use Rattle.std.specs.Prelude.{Bool, cond, List, [], ℕ, eqb, replicate, pos}
+use Rattle.std.specs.Prelude.{Bool, cond, List, [], ℕ, eqb, replicate, pos, Result, Ok, Err}
 use Rattle.grid.specs.Grid.{samples}
 use Rattle.grid.specs.Refusal.{accepted}
 use Rattle.grid.specs.declared.points.Point.{Point}
@@ -10,7 +10,6 @@ use Rattle.selection.specs.Selected.{Handed as Selecting, marks_by}
 use Rattle.selection.specs.Selected.{handed as selecting, refusal as selection_refusal}
 use Rattle.mesh.specs.Closed.{kept_by}
 use Rattle.mesh.specs.Triangles.{mesh, places_of, number}
-use Rattle.mesh.specs.declared.Meshed.{Meshed}
 
 -- what selection is handed: the frame's heights, m and tolerance, and two buffers of (N+1)² entries (zeros: what they hold does not matter)
 abbrev pub selected : List ℕ → Selecting
@@ -26,12 +25,9 @@ refusal input = cond (eqb (form_refusal input) accepted) (selection_refusal (sel
 abbrev pub kept_in : List ℕ → Point → Bool
 kept_in input = kept_by (size_in input) (marks_by (selected input))
 
--- refused: the number, and no triangles; accepted: no refusal, and document 01's count of the triangles of these points
-unfoldable pub answer_in : List ℕ → Meshed
-answer_in input =
-    cond (eqb (refusal input) accepted)
-    (record { refusal = accepted; triangles = number (size_in input) (kept_in input) })
-    (record { refusal = refusal input; triangles = 0 })
+-- accepted: document 01's count of the triangles of these points; refused: the number
+unfoldable pub answer_in : List ℕ → Result ℕ ℕ
+answer_in input = cond (eqb (refusal input) accepted) (Ok (number (size_in input) (kept_in input))) (Err (refusal input))
 
 -- the places of the uncut triangles that these points lead to, three each; refused: none
 unfoldable pub places_in : List ℕ → List ℕ

@@ -2,9 +2,10 @@
 -- selection refuses what the input holds, or the triangles are there; and what is printed of each, byte by byte, in character codes. The promise is
 -- proved to mean it, and it the promise.
 -- Definitions only.
-use Rattle.std.specs.Prelude.{◌≡◌, ◌≢◌, List, [], ◌∷◌, ◌++◌, ℕ, suc, ◌+◌, ◌*◌, ◌≤◌, ◌<◌, length, get_or, ℤ}
+use Rattle.std.specs.Prelude.{◌≡◌, ◌≢◌, cond, eqb, List, [], ◌∷◌, ◌++◌, ℕ, suc, ◌+◌, ◌*◌, ◌≤◌, ◌<◌, length, get_or, ℤ, Result, Ok, Err}
 use Rattle.grid.specs.Grid.{samples}
-use Rattle.grid.specs.Refusal.{accepted}
+use Rattle.grid.specs.Refusal.{accepted, number}
+use Rattle.grid.specs.declared.refusals.Refusal.{Refusal}
 use Rattle.grid.specs.Sizes.{size_of}
 use Rattle.frame.specs.Rule.{Follows, RowByRow}
 use Rattle.frame.specs.declared.Frame.{Frame}
@@ -15,10 +16,9 @@ use Rattle.mesh.specs.Meshed.{Meshes}
 use Rattle.mesh.specs.Meshed.{handed as meshing}
 use Rattle.mesh.specs.declared.Meshed.{Meshed}
 
--- on a refusal every number handed back is 0, except the refusal number, and buffers stay untouched
-pub record Refuses (n : ℕ) (places : List ℕ) (r : Meshed) (places' : List ℕ) : Type 0 where
-  pub number : r.refusal ≡ n
-  pub none : r.triangles ≡ 0
+-- on a refusal nothing is handed back but its number, and buffers stay untouched
+pub record Refuses (n : ℕ) (places : List ℕ) (r : Result ℕ ℕ) (places' : List ℕ) : Type 0 where
+  pub number : r ≡ Err n
   pub untouched : places' ≡ places
 
 -- selection of the heights that the input holds row by row, with the frame's own m and tolerance, on two buffers of (N+1)² entries,
@@ -33,16 +33,20 @@ pub record Selecting (input : List ℕ) (f : Frame) (a : Selected) (marks' : Lis
   pub heights' : List ℤ
   pub selects : Selects (selecting survey f.m f.tolerance marks heights) a marks' heights'
 
+-- what the call of triangles answers
+abbrev pub result_of : Meshed → Result ℕ ℕ
+result_of t = cond (eqb t.refusal accepted) (Ok t.triangles) (Err t.refusal)
+
 -- a run follows document 01: f is the frame that is read from the input
-pub data Runs (input places : List ℕ) (r : Meshed) (places' : List ℕ) : Type 0 where
+pub data Runs (input places : List ℕ) (r : Result ℕ ℕ) (places' : List ℕ) : Type 0 where
   -- the input's own refusals first: that number
-  form : {f : Frame} → Follows input f → f.refusal ≢ accepted → Refuses f.refusal places r places' → Runs input places r places'
+  form : {e : Refusal} → Follows input (Err e) → Refuses (number e) places r places' → Runs input places r places'
   -- then selection's own: that number
-  selection : {f : Frame} {a : Selected} {marks : List ℕ} → Follows input f → f.refusal ≡ accepted → Selecting input f a marks →
+  selection : {f : Frame} {a : Selected} {marks : List ℕ} → Follows input (Ok f) → Selecting input f a marks →
       a.refusal ≢ accepted → Refuses a.refusal places r places' → Runs input places r places'
   -- else the triangles of the marks that selection wrote
-  triangles : {f : Frame} {a : Selected} {marks : List ℕ} → Follows input f → f.refusal ≡ accepted → Selecting input f a marks →
-      a.refusal ≡ accepted → Meshes (meshing marks f.m places) r places' → Runs input places r places'
+  triangles : {f : Frame} {a : Selected} {marks : List ℕ} {t : Meshed} → Follows input (Ok f) → Selecting input f a marks →
+      a.refusal ≡ accepted → Meshes (meshing marks f.m places) t places' → r ≡ result_of t → Runs input places r places'
 
 -- a number in decimal digits, without zeros in front: one digit, or a number's digits and one digit more. (A digit's code is 48 more than it.)
 pub data Spells : ℕ → List ℕ → Type 0 where
@@ -66,15 +70,15 @@ pub data Lines (places : List ℕ) : ℕ → List ℕ → Type 0 where
       Line (get_or places (3 * n) 0) (get_or places (3 * n + 1) 0) (get_or places (3 * n + 2) 0) line → bytes ≡ before ++ line → Lines places (suc n) bytes
 
 -- `refused` and the number; or `T` and the triangle count, then the triangles
-pub data Printed (r : Meshed) (places : List ℕ) (text : List ℕ) : Type 0 where
-  refused : {number : List ℕ} → r.refusal ≢ accepted → Spells r.refusal number →
+pub data Printed (r : Result ℕ ℕ) (places : List ℕ) (text : List ℕ) : Type 0 where
+  refused : {n : ℕ} {number : List ℕ} → r ≡ Err n → Spells n number →
       text ≡ 114 ∷ 101 ∷ 102 ∷ 117 ∷ 115 ∷ 101 ∷ 100 ∷ 32 ∷ (number ++ 10 ∷ []) → Printed r places text
-  listed : {number lines : List ℕ} → r.refusal ≡ accepted → Spells r.triangles number → Lines places r.triangles lines →
+  listed : {n : ℕ} {number lines : List ℕ} → r ≡ Ok n → Spells n number → Lines places n lines →
       text ≡ 84 ∷ 32 ∷ ((number ++ 10 ∷ []) ++ lines) → Printed r places text
 
 -- what is printed of an input: the answer and the places of such a run, whose places have room for the most triangles of a frame
 pub record Shows (input text : List ℕ) : Type 0 where
-  pub answer : Meshed
+  pub answer : Result ℕ ℕ
   pub before : List ℕ
   pub room : 3 * (size_of 5).triangles ≤ length before
   pub after : List ℕ

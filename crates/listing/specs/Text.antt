@@ -1,9 +1,7 @@
 -- What is printed, byte by byte. Document 01, "The program": one line, `refused` and the number, or `T` and the triangle count, then one
 -- line of three places per triangle; one space between items, a line feed after each line. Definitions only.
-use Rattle.std.specs.Prelude.{◌≡◌, cond, List, [], ◌∷◌, ◌++◌, ℕ, zero, suc, ◌+◌, ◌*◌, ◌/◌, ◌%◌, eqb, ltb, length, get_or}
-use Rattle.grid.specs.Refusal.{accepted}
+use Rattle.std.specs.Prelude.{◌≡◌, cond, List, [], ◌∷◌, ◌++◌, ℕ, zero, suc, ◌+◌, ◌*◌, ◌/◌, ◌%◌, ltb, length, get_or, Result, Ok, Err}
 use Rattle.mesh.specs.Meshed.{entries_each, written_over}
-use Rattle.mesh.specs.declared.Meshed.{Meshed}
 use Rattle.listing.specs.Program.{answer_in, places_in}
 
 -- the characters, by their codes
@@ -48,10 +46,9 @@ lines_of zero places = []
 lines_of (suc triangles) places = lines_of triangles places ++ line_at places (entries_each * triangles)
 
 -- `T` and the triangle count, then the triangles; or `refused` and the number
-unfoldable pub text_of : Meshed → List ℕ → List ℕ
-text_of r places =
-    cond (eqb r.refusal accepted) (line_of (triangle_word ∷ decimal_of r.triangles ∷ []) ++ lines_of r.triangles places)
-    (line_of (refused_word ∷ decimal_of r.refusal ∷ []))
+unfoldable pub text_of : Result ℕ ℕ → List ℕ → List ℕ
+text_of (Ok triangles) places = line_of (triangle_word ∷ decimal_of triangles ∷ []) ++ lines_of triangles places
+text_of (Err number) places = line_of (refused_word ∷ decimal_of number ∷ [])
 
 -- what is printed of an input
 abbrev pub text_in : List ℕ → List ℕ

@@ -8,9 +8,13 @@ use Prim.Native.Nat.{ℕ, ◌*◌}
 use lib.Dec.{eqb}
 use lib.ListN.{length, drop}
 use borrow.Author.Tests.{ne_eqb}
+use native.Mathlib.Omega.{arith}
 use Rattle.grid.specs.Refusal.{accepted, no_room}
+use Rattle.grid.specs.declared.refusals.Refusal.{Refusal}
+use Rattle.grid.specs.declared.refusals.Refusal.TheVariants.{SizeAbove, WrongLength, VoidCorner, ToleranceAbove, PointBeyond, BadMark, NotClosed, NoRoom, InputForm}
 use Rattle.mesh.specs.Triangles.{mesh, places_of}
 use Rattle.mesh.specs.Meshed.{Handed, kept_of, needed, refusal, answer_of, written_over, places_after}
+use Rattle.mesh.specs.Inner.{refused}
 use Rattle.mesh.specs.Rule.{Turned}
 use Rattle.mesh.specs.declared.Meshed.{Meshed}
 use Rattle.mesh.proofs.Accepted.{turned_only}
@@ -61,3 +65,15 @@ pub answer_turned : (h : Handed) {n : ℕ} → Turned h n → answering n (cond 
 unfolding answer_of
 answer_turned h t =
     ap (λ (n : ℕ). answering n (cond (eqb n accepted || eqb n no_room) (needed h) 0)) (turned_only h t)
+
+-- a refusal's number is none that accepts
+pub refused_other : (r : Refusal) → (refused r).refusal ≢ accepted
+refused_other SizeAbove e = absurd (omega arith)
+refused_other WrongLength e = absurd (omega arith)
+refused_other VoidCorner e = absurd (omega arith)
+refused_other ToleranceAbove e = absurd (omega arith)
+refused_other PointBeyond e = absurd (omega arith)
+refused_other BadMark e = absurd (omega arith)
+refused_other NotClosed e = absurd (omega arith)
+refused_other (NoRoom n) e = absurd (omega arith)
+refused_other InputForm e = absurd (omega arith)

@@ -1,56 +1,57 @@
 -- All marks are good if those of the grid corners are and those between them: on the south border, in the rows between the borders,
 -- and on the north border. For the four lie at the places 0, N, N·(N+1) and N·(N+1)+N, which is the last one.
 use mathlib.Core.Path.{◌≡◌, refl, sym, ap, ◌∙◌}
-use mathlib.Core.Logic.{⊎_elim, ◌≢◌, ◌↔◌}
-use mathlib.Core.Bool.{Bool, true, false, true≢false, ◌&&◌, and-eq-true_iff}
+use mathlib.Core.Logic.{◌≢◌, ◌↔◌}
+use mathlib.Core.Bool.{Bool, true, false, true≢false, ◌&&◌, and-true, and_assoc, and-eq-true_iff}
 use mathlib.Core.List.{List, [], ◌∷◌, Memᴰ}
-use Prim.Native.Nat.{ℕ, zero, suc, ◌+◌, ◌-◌, ◌*◌, ◌≤◌, ◌<◌}
-use native.Mathlib.Nat.{eq-or-lt_of_le}
+use Prim.Native.Nat.{ℕ, ◌+◌, ◌-◌, ◌*◌, ◌≤◌, ◌<◌}
+use lib.ListN.{length, get_or, drop}
+use Rattle.std.specs.List.{fold}
+use Rattle.std.proofs.lemmas.List.{length-take-le, length-drop, get_or-take, get_or-drop}
 use native.Mathlib.Decide.{dec_lt}
 use native.Mathlib.Omega.{arith}
-use Rattle.grid.specs.Grid.{side, samples, place, point, entries, Inside}
+use Rattle.grid.specs.Grid.{side, samples, place, point, Inside}
 use Rattle.grid.specs.Points.{is_corner}
-use Rattle.grid.specs.Mark.{good_mark}
+use Rattle.grid.specs.Mark.{left_out, good_mark}
 use Rattle.grid.specs.declared.points.Point.{Point}
 use Rattle.grid.proofs.Members.{All, all}
 use Rattle.grid.proofs.Places.{place_below, place_point, point_place, point_inside}
 use Rattle.grid.proofs.Spaced.{corner_inside}
 use Rattle.grid.proofs.Sums.{false_by}
 use Rattle.selection.specs.Marks.{mark_at}
-use Rattle.selection.specs.Selected.{corners}
+use Rattle.grid.specs.Grid.{corners}
 use Rattle.selection.proofs.Corners.{corner_in, listed_corner}
 use Rattle.selection.proofs.Rule.{same_test}
 use Rattle.mesh.specs.Closed.{every, good_marks}
-use Rattle.mesh.specs.Inner.{good_inner, between}
-use Rattle.mesh.proofs.Every.{every_in, in_every}
+use Rattle.mesh.specs.Inner.{good_inner}
+use Rattle.mesh.proofs.Every.{every_in, in_every, at_in, in_at, slice}
 use Rattle.mesh.proofs.Closing.{good_marks_lem}
 
 module _ (f : ℕ → Bool) where
-  -- asked place by place: of those that are left the first decides together with the rest
-  pub between_next : (i to : ℕ) → i < to → every f (between i to) ≡ (f i && every f (between (i + 1) to))
-  between_next i to l =
-      let one : to - i ≡ suc (to - (i + 1)) = omega arith in
-      let next : suc i ≡ i + 1 = omega arith in
-      ap (λ (n : ℕ). every f (entries (λ k. k) i n)) one ∙ ap (λ (k : ℕ). f i && every f (entries (λ j. j) k (to - (i + 1)))) next
+  -- asked one after the other, they are asked all
+  pub fold_every : (b : Bool) (l : List ℕ) → fold (λ all a. all && f a) b l ≡ (b && every f l)
+  fold_every b [] = sym (and-true b)
+  fold_every b (a ∷ l) = fold_every (b && f a) l ∙ and_assoc b (f a) (every f l)
 
-  pub between_none : (i to : ℕ) → to ≤ i → every f (between i to) ≡ true
-  between_none i to l = let none : to - i ≡ 0 = omega arith in rw none
-
-  every_between : (from to : ℕ) → (every f (between from to) ≡ true) ↔ ((k : ℕ) → from ≤ k → k < to → f k ≡ true)
-  every_between from to = (
-    λ e k l h. of_all from (to - from) e k l (omega arith),
-    λ all. to_all from (to - from) (λ k l h. all k l (omega arith)),
+  every_slice : (l : List ℕ) (from to : ℕ) → to ≤ length l →
+      (every f (slice from to l) ≡ true) ↔ ((k : ℕ) → from ≤ k → k < to → f (get_or l k left_out) ≡ true)
+  every_slice l from to room = (
+    λ e k a b.
+        let i : k - from < to - from = omega arith in
+        let here : from + (k - from) ≡ k = omega arith in
+        let is = get_or-take (to - from) (drop from l) (k - from) left_out i ∙ get_or-drop from l (k - from) left_out ∙ ap (λ (j : ℕ). get_or l j left_out) here in
+        ap f (sym is) ∙ every_in f (slice from to l) e (at_in (slice from to l) (k - from) left_out (rw long i)),
+    λ all.
+        in_every f (slice from to l)
+        (λ q k.
+        let w = in_at (slice from to l) left_out k in
+        let i : w.0 < to - from = omega (arith, w.1, long) in
+        ap f (w.2 ∙ get_or-take (to - from) (drop from l) w.0 left_out i ∙ get_or-drop from l w.0 left_out)
+        ∙ all (from + w.0) (omega arith) (omega arith)),
   )
     where
-      of_all : (i n : ℕ) → every f (entries (λ k. k) i n) ≡ true → (k : ℕ) → i ≤ k → k < i + n → f k ≡ true
-      of_all i zero e k l h = absurd (omega arith)
-      of_all i (suc n) e k l h =
-          let both = (and-eq-true_iff (f i) (every f (entries (λ k. k) (suc i) n))).0 e in
-          ⊎_elim (λ w. ap f (sym w) ∙ both.0) (λ w. of_all (suc i) n both.1 k w (omega arith)) (eq-or-lt_of_le l)
-
-      to_all : (i n : ℕ) → ((k : ℕ) → i ≤ k → k < i + n → f k ≡ true) → every f (entries (λ k. k) i n) ≡ true
-      to_all i zero all = refl
-      to_all i (suc n) all = rw (all i (omega arith) (omega arith)) (to_all (suc i) n (λ k l h. all k (omega arith) (omega arith)))
+      long : length (slice from to l) ≡ to - from
+      long = length-take-le (to - from) (drop from l) (omega (arith, length-drop from l))
 
 module _ (m : ℕ) where
   -- no grid corner lies at this place
@@ -75,32 +76,38 @@ module _ (m : ℕ) where
       each (q ∷ qs) no_such = (no_such q (Memᴰ.head refl), each qs (λ r i. no_such r (Memᴰ.tail i)))
 
 -- the place of the north-west corner
-abbrev nw : ℕ → ℕ
+abbrev pub nw : ℕ → ℕ
 nw n = n * (n + 1)
-
--- the last row begins there; n is N, as the code has it
-pub last_row : (m : ℕ) {n : ℕ} → n ≡ side m → samples m ≡ n * (n + 1) + (n + 1)
-last_row m {n} e = rw (← e) (omega arith)
 
 module _ (m : ℕ) (marks : List ℕ) where
   -- the marks of the four are good
-  abbrev four : Bool
+  abbrev pub four : Bool
   four = every (λ p. good_mark true (mark_at m marks p)) (corners m)
 
-  abbrev good_between : ℕ → ℕ → Bool
-  good_between from to = every (good_inner marks) (between from to)
+module _ (marks : List ℕ) where
+  -- and those of the three runs between them, on a grid of n cells a side
+  abbrev pub south : ℕ → Bool
+  south n = every (good_mark false) (slice 1 n marks)
 
-  abbrev south : ℕ → Bool
-  south n = good_between 1 n
+  abbrev pub rows : ℕ → Bool
+  rows n = every (good_mark false) (slice (n + 1) (nw n) marks)
 
-  abbrev rows : ℕ → Bool
-  rows n = good_between (n + 1) (nw n)
+  abbrev pub north : ℕ → Bool
+  north n = every (good_mark false) (slice (nw n + 1) (nw n + n) marks)
 
-  abbrev north : ℕ → Bool
-  north n = good_between (nw n + 1) (nw n + n)
+-- as the code asks
+pub run_told : {r : Bool} (l : List ℕ) → r ≡ fold (λ all mark. all && good_mark false mark) true l → r ≡ every (good_mark false) l
+run_told l e = e ∙ fold_every (good_mark false) true l
 
+module _ (m : ℕ) (marks : List ℕ) (long : length marks ≡ samples m) where
   abbrev parts : ℕ → Bool
-  parts n = four && (south n && (rows n && north n))
+  parts n = ((four m marks && south marks n) && rows marks n) && north marks n
+
+  abbrev inner : ℕ → Type 0
+  inner i = good_inner marks i ≡ true
+
+  run : (from to : ℕ) → to ≤ samples m → (every (good_mark false) (slice from to marks) ≡ true) ↔ ((i : ℕ) → from ≤ i → i < to → inner i)
+  run from to l = every_slice (good_mark false) marks from to (rw long l)
 
   to_parts : good_marks m marks ≡ true → parts (side m) ≡ true
   unfolding place
@@ -108,46 +115,45 @@ module _ (m : ℕ) (marks : List ℕ) where
       let n = side m in
       rw (
         in_every (λ p. good_mark true (mark_at m marks p)) (corners m) (λ p i. at_corner p (listed_corner m p i)),
-        run 1 n (omega arith) (λ i a b. omega arith),
-        run (n + 1) (nw n) (omega arith) (λ i a b. omega arith),
-        run (nw n + 1) (nw n + n) (omega arith) (λ i a b. omega arith),
+        between 1 n (omega arith) (λ i a b. omega arith),
+        between (n + 1) (nw n) (omega arith) (λ i a b. omega arith),
+        between (nw n + 1) (nw n + n) (omega arith) (λ i a b. omega arith),
       )
     where
       at_corner : (p : Point) → is_corner m p ≡ true → good_mark true (mark_at m marks p) ≡ true
       at_corner p c = rw c at ((good_marks_lem m marks).0 good p (corner_inside m p c))
 
-      at_place : (i : ℕ) → i < samples m → Between m i → good_inner marks i ≡ true
+      at_place : (i : ℕ) → i < samples m → Between m i → inner i
       at_place i l apart =
           rw (between_inner m i apart, place_point m i) at ((good_marks_lem m marks).0 good (point m i) (point_inside m i l))
 
-      run : (from to : ℕ) → to ≤ samples m → ((i : ℕ) → from ≤ i → i < to → Between m i) → good_between from to ≡ true
-      run from to l apart = (every_between (good_inner marks) from to).1 (λ i a b. at_place i (omega arith) (apart i a b))
+      between : (from to : ℕ) → to ≤ samples m → ((i : ℕ) → from ≤ i → i < to → Between m i) → every (good_mark false) (slice from to marks) ≡ true
+      between from to l apart = (run from to l).1 (λ i a b. at_place i (omega arith) (apart i a b))
 
   -- a place between the grid corners lies on the south border, in the rows between, or on the north border
-  in_run_lem : south (side m) ≡ true → rows (side m) ≡ true → north (side m) ≡ true → (i : ℕ) → i < samples m → Between m i →
-      good_inner marks i ≡ true
+  in_run_lem : south marks (side m) ≡ true → rows marks (side m) ≡ true → north marks (side m) ≡ true → (i : ℕ) → i < samples m → Between m i → inner i
   unfolding place
   in_run_lem s r t i l apart = go (dec_lt i (side m)) (dec_lt i (nw (side m)))
     where
-      go : Dec (i < side m) → Dec (i < nw (side m)) → good_inner marks i ≡ true
-      go (yes k) d = (every_between (good_inner marks) 1 _).0 s i (omega arith) k
-      go (no j) (yes k) = (every_between (good_inner marks) (side m + 1) _).0 r i (omega arith) k
-      go (no j) (no k) = (every_between (good_inner marks) (nw (side m) + 1) _).0 t i (omega arith) (omega arith)
+      go : Dec (i < side m) → Dec (i < nw (side m)) → inner i
+      go (yes k) d = (run 1 (side m) (omega arith)).0 s i (omega arith) k
+      go (no j) (yes k) = (run (side m + 1) (nw (side m)) (omega arith)).0 r i (omega arith) k
+      go (no j) (no k) = (run (nw (side m) + 1) (nw (side m) + side m) (omega arith)).0 t i (omega arith) (omega arith)
 
   of_parts : parts (side m) ≡ true → good_marks m marks ≡ true
   of_parts e =
       let n = side m in
-      let a = (and-eq-true_iff four (south n && (rows n && north n))).0 e in
-      let b = (and-eq-true_iff (south n) (rows n && north n)).0 a.1 in
-      let c = (and-eq-true_iff (rows n) (north n)).0 b.1 in
-      let run = in_run_lem b.0 c.0 c.1 in
+      let a = (and-eq-true_iff ((four m marks && south marks n) && rows marks n) (north marks n)).0 e in
+      let b = (and-eq-true_iff (four m marks && south marks n) (rows marks n)).0 a.0 in
+      let c = (and-eq-true_iff (four m marks) (south marks n)).0 b.0 in
+      let here = in_run_lem c.1 b.1 a.1 in
       (good_marks_lem m marks).1
-      (λ p h. by p a.0 (λ inner. run (place m p) (place_below m p h) (inner_between m p h inner)) (is_corner m p) refl)
+      (λ p h. by p c.0 (λ out. here (place m p) (place_below m p h) (inner_between m p h out)) (is_corner m p) refl)
     where
-      by : (p : Point) → four ≡ true → (is_corner m p ≡ false → good_inner marks (place m p) ≡ true) →
+      by : (p : Point) → four m marks ≡ true → (is_corner m p ≡ false → inner (place m p)) →
           (t : Bool) → is_corner m p ≡ t → good_mark t (mark_at m marks p) ≡ true
-      by p corner inner true c = every_in (λ q. good_mark true (mark_at m marks q)) (corners m) corner (corner_in m p c)
-      by p corner inner false c = inner c
+      by p corner away true c = every_in (λ q. good_mark true (mark_at m marks q)) (corners m) corner (corner_in m p c)
+      by p corner away false c = away c
 
   pub in_parts : {n : ℕ} → n ≡ side m → good_marks m marks ≡ parts n
   in_parts e = same_test (good_marks m marks) (parts (side m)) (to_parts, of_parts) ∙ ap parts (sym e)

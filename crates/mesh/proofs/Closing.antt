@@ -18,7 +18,7 @@ use Rattle.grid.proofs.Keeping.{keeps_good}
 use Rattle.grid.proofs.Places.{place_point, point_inside}
 use Rattle.grid.proofs.Spaced.{corner_inside}
 use Rattle.selection.specs.Marks.{mark_at}
-use Rattle.selection.specs.Selected.{corners}
+use Rattle.grid.specs.Grid.{corners}
 use Rattle.selection.specs.Rule.{Closed}
 use Rattle.selection.proofs.Corners.{corner_in, listed_corner}
 use Rattle.mesh.specs.Triangles.{points}

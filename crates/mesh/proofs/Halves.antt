@@ -76,13 +76,13 @@ pub halved : {marks : List ℕ} {l a r c : ℕ} (k at : ℕ) (buffer : List ℕ)
     Halved marks k l a r c at buffer
 halved k at buffer corners middle is room = record { corners = corners; middle = middle; is = is; room = room }
 
--- half i lies between corner i and the next
-abbrev pub corner : ℕ → ℕ → ℕ → ℕ → ℕ
-corner l a r i = get_or (l ∷ a ∷ r ∷ []) i 0
+-- half i is cut between these two
+abbrev pub ends : ℕ → ℕ → ℕ → ℕ → ℕ × ℕ
+ends l a r i = get_or ((l, a) ∷ (a, r) ∷ []) i (0, 0)
 
 -- what is written for half i, and for the first i halves
 abbrev half : (ℕ → Bool) → ℕ → ℕ → ℕ → ℕ → ℕ → ℕ → List ℕ
-half kept k l a r c i = cut_places kept (k - 1) (corner l a r i) c (corner l a r (i + 1))
+half kept k l a r c i = cut_places kept (k - 1) (ends l a r i).0 c (ends l a r i).1
 
 pub written : (ℕ → Bool) → ℕ → ℕ → ℕ → ℕ → ℕ → ℕ → List ℕ
 written kept k l a r c zero = []
@@ -122,7 +122,7 @@ module _ {marks : List ℕ} {k l a r c at : ℕ} {buffer : List ℕ} (t : Halved
   apex = omega (arith, t.corners.ends, t.middle)
 
   -- a half's corners are places at which marks stand
-  pub half_corners : (i : ℕ) → i < 2 → Corners marks (corner l a r i) c (corner l a r (i + 1))
+  pub half_corners : (i : ℕ) → i < 2 → Corners marks (ends l a r i).0 c (ends l a r i).1
   half_corners zero below =
       let k = t.corners in
       record { ends = record { plain = k.ends.plain; small = k.ends.small; left = k.ends.left; right = k.apex }; apex = apex }
@@ -139,18 +139,18 @@ module _ {marks : List ℕ} {k l a r c at : ℕ} {buffer : List ℕ} (t : Halved
   half_room (suc (suc i)) below p = absurd (omega arith)
 
   -- where the triangle has an even number of cuts left its halves have one: whether they are cut is whether their midpoint is kept
-  pub odd_cut : (i : ℕ) {told : Bool} → k % 2 ≡ 0 → told ≡ kept_place marks (midplace (corner l a r i) (corner l a r (i + 1))) →
-      is_cut (kept_place marks) (k - 1) (corner l a r i) (corner l a r (i + 1)) ≡ told
-  odd_cut i even e = sym (e ∙ one_left (kept_place marks) (k - 1) (corner l a r i) (corner l a r (i + 1)) (λ none. omega (arith, some_left)))
+  pub odd_cut : (i : ℕ) {told : Bool} → k % 2 ≡ 0 → told ≡ kept_place marks (midplace (ends l a r i).0 (ends l a r i).1) →
+      is_cut (kept_place marks) (k - 1) (ends l a r i).0 (ends l a r i).1 ≡ told
+  odd_cut i even e = sym (e ∙ one_left (kept_place marks) (k - 1) (ends l a r i).0 (ends l a r i).1 (λ none. omega (arith, some_left)))
 
   -- an uncut half: where the triangle has an even number of cuts left it has an odd one, and the other way round
-  pub odd_half : (i : ℕ) → k % 2 ≡ 0 → is_cut (kept_place marks) (k - 1) (corner l a r i) (corner l a r (i + 1)) ≡ false →
-      of i ≡ corner l a r (i + 1) ∷ c ∷ corner l a r i ∷ []
-  odd_half i even out = odd_whole (kept_place marks) (k - 1) (corner l a r i) c (corner l a r (i + 1)) out (omega (arith, some_left))
+  pub odd_half : (i : ℕ) → k % 2 ≡ 0 → is_cut (kept_place marks) (k - 1) (ends l a r i).0 (ends l a r i).1 ≡ false →
+      of i ≡ (ends l a r i).1 ∷ c ∷ (ends l a r i).0 ∷ []
+  odd_half i even out = odd_whole (kept_place marks) (k - 1) (ends l a r i).0 c (ends l a r i).1 out (omega (arith, some_left))
 
-  pub even_half : (i : ℕ) → k % 2 ≡ 1 → is_cut (kept_place marks) (k - 1) (corner l a r i) (corner l a r (i + 1)) ≡ false →
-      of i ≡ corner l a r i ∷ c ∷ corner l a r (i + 1) ∷ []
-  even_half i odd out = even_whole (kept_place marks) (k - 1) (corner l a r i) c (corner l a r (i + 1)) out (omega (arith, some_left))
+  pub even_half : (i : ℕ) → k % 2 ≡ 1 → is_cut (kept_place marks) (k - 1) (ends l a r i).0 (ends l a r i).1 ≡ false →
+      of i ≡ (ends l a r i).0 ∷ c ∷ (ends l a r i).1 ∷ []
+  even_half i odd out = even_whole (kept_place marks) (k - 1) (ends l a r i).0 c (ends l a r i).1 out (omega (arith, some_left))
 
   -- nothing is written, then a half, and then it was written for the triangle
   pub none_put : Put (first 0) at buffer at buffer

@@ -1,9 +1,9 @@
 -- Line by line and spacing by spacing: each point that is no grid corner lies in one of the lines that are asked, so what is told of
 -- the lines is told of all points. A grid corner depends on nothing.
-use mathlib.Core.Path.{◌≡◌, refl, sym, ap, ◌∙◌}
-use mathlib.Core.Bool.{Bool, true, false, false≢true, not, ◌&&◌, or-true, and-eq-true_iff}
+use mathlib.Core.Path.{◌≡◌, refl, sym, ◌∙◌}
+use mathlib.Core.Bool.{Bool, true, false, not, ◌&&◌, or-true, and-eq-true_iff}
 use Prim.Native.Nat.{ℕ, suc, ◌+◌, ◌-◌, ◌*◌, ◌^◌, ◌/◌, ◌%◌, ◌≤◌, ◌<◌}
-use native.Mathlib.Nat.{pow-suc, mul_comm, mul-one, mul-le-mul_left, le-mul_of_pos_right}
+use native.Mathlib.Nat.{mul-one, mul-le-mul_left, le-mul_of_pos_right}
 use native.Mathlib.Decide.{ℕ_discrete, dec_lt}
 use native.Mathlib.Omega.{arith}
 use Rattle.grid.specs.Grid.{side, at, Inside}
@@ -14,31 +14,26 @@ use Rattle.grid.proofs.Around.{Way, row, column, rise, fall, same_point}
 use Rattle.grid.proofs.Parity.{kind_corner}
 use Rattle.grid.proofs.Placed.{Placed, placed, kind_way}
 use Rattle.grid.specs.Inner.{Power}
-use Rattle.selection.proofs.Ranks.{exponent_below, exponent_most}
 use Rattle.grid.proofs.Powers.{two_on, positive}
+use lib.ListN.{length, get_or}
+use Rattle.grid.proofs.Sums.{false_by}
+use Rattle.std.specs.List.{AllWithin, HoldsAt, range_with_len}
+use Rattle.std.proofs.lemmas.List.FromFn.{length-range_with_len, get_or-range_with_len}
 use Rattle.mesh.specs.Triangles.{points}
 use Rattle.mesh.specs.Closed.{every, supported}
-use Rattle.mesh.specs.Inner.{Tells, Line, CentreRow, Across, falls, rises, LineClosed, LinesClosed, SpacingClosed}
+use Rattle.std.specs.Bool.{Decides, MatchBool}
+use Rattle.mesh.specs.Inner.{Line, CentreRow, Across, falls, rises, LineClosed, LinesClosed, SpacingClosed}
 use Rattle.mesh.proofs.Every.{every_point}
 use Rattle.mesh.proofs.Strides.{odd_reach}
 
 -- told of one claim and of another
-tells_not : {r : Bool} {P Q : Type 0} → Tells r P → r ≡ false → (Q → P) → Tells false Q
-tells_not t e f = (λ b. absurd (false≢true b), λ q. absurd (false≢true (sym e ∙ t.1 (f q))))
-
-pub tells_as : {r : Bool} {P Q : Type 0} → Tells r P → (P → Q) → (Q → P) → Tells r Q
+pub tells_as : {r : Bool} {P Q : Type 0} → Decides r P → (P → Q) → (Q → P) → Decides r Q
 tells_as t f g = (λ e. f (t.0 e), λ q. t.1 (g q))
 
-pub tells_both : {r v : Bool} {P Q : Type 0} → Tells r P → Tells v Q → Tells (r && v) (P × Q)
+pub tells_both : {r v : Bool} {P Q : Type 0} → Decides r P → Decides v Q → Decides (r && v) (P × Q)
 tells_both {r} {v} t u =
     let both = and-eq-true_iff r v in
     (λ e. let w = both.0 e in (t.0 w.0, u.0 w.1), λ pq. both.1 (t.1 pq.0, u.1 pq.1))
-
--- two that tell of one claim say the same
-tells_same : (r v : Bool) {P : Type 0} → Tells r P → Tells v P → r ≡ v
-tells_same true v t u = sym (u.1 (t.0 refl))
-tells_same false true t u = t.1 (u.0 refl)
-tells_same false false t u = refl
 
 -- the lines before that of a number are closed
 abbrev LinesBefore : ℕ → ℕ → (Point → Bool) → Bool → ℕ → ℕ → Type 0
@@ -50,7 +45,7 @@ pub record Passed (m s : ℕ) (kept : Point → Bool) (turned : Bool) (parity c 
   pub number : ℕ
   pub times : c ≡ s * number
   pub is : number % 2 ≡ parity
-  pub closed : Tells all (LinesBefore m s kept turned parity number)
+  pub closed : Decides all (LinesBefore m s kept turned parity number)
 
 module _ {m s : ℕ} (w : Power m s) (kept : Point → Bool) (turned : Bool) where
   -- an odd number of s that is at most N is below it
@@ -66,7 +61,7 @@ module _ {m s : ℕ} (w : Power m s) (kept : Point → Bool) (turned : Bool) whe
     strided first by o f k l = f (first + by * k) (o k) (omega arith)
 
     -- the odd numbers: every second from 1
-    pub line_told : {r : Bool} → Tells r (Told 1 2) → Tells r (LineClosed m kept s turned c)
+    pub line_told : {r : Bool} → Decides r (Told 1 2) → Decides r (LineClosed m kept s turned c)
     line_told t = tells_as t from (strided 1 2 (λ k. omega arith))
       where
         from : Told 1 2 → LineClosed m kept s turned c
@@ -80,7 +75,7 @@ module _ {m s : ℕ} (w : Power m s) (kept : Point → Bool) (turned : Bool) whe
         go (yes h) = let e : 1 + 4 * (a / 4) ≡ a = omega arith in rw e at (f.0 (a / 4) (rw e (odd_below a o l)))
         go (no h) = let e : 3 + 4 * (a / 4) ≡ a = omega arith in rw e at (f.1 (a / 4) (rw e (odd_below a o l)))
 
-    pub line_halves : {r v : Bool} → Tells r (Told 1 4) → Tells v (Told 3 4) → Tells (r && v) (LineClosed m kept s turned c)
+    pub line_halves : {r v : Bool} → Decides r (Told 1 4) → Decides v (Told 3 4) → Decides (r && v) (LineClosed m kept s turned c)
     line_halves t u = tells_as (tells_both t u) halves (λ f. (strided 1 4 (λ k. omega arith) f, strided 3 4 (λ k. omega arith) f))
 
   module _ (parity : ℕ) where
@@ -92,7 +87,7 @@ module _ {m s : ℕ} (w : Power m s) (kept : Point → Bool) (turned : Bool) whe
       pub line_here : c ≤ side m → Line m s parity c
       line_here l = record { number = here.number; times = here.times; is = here.is; inside = l }
 
-      pub passed_on : {r : Bool} → c ≤ side m → Tells r (LineClosed m kept s turned c) →
+      pub passed_on : {r : Bool} → c ≤ side m → Decides r (LineClosed m kept s turned c) →
           Passed m s kept turned parity (c + 2 * s) (all && r)
       passed_on inside t =
           record {
@@ -111,7 +106,7 @@ module _ {m s : ℕ} (w : Power m s) (kept : Point → Bool) (turned : Bool) whe
           go both b o l h (no d) =
               let f : here.number ≡ b = omega (arith, here.is) in rw (here.times, f) at both.1
 
-      pub passed_last : side m < c → Tells all (LinesClosed m kept s turned parity)
+      pub passed_last : side m < c → Decides all (LinesClosed m kept s turned parity)
       passed_last l =
           tells_as here.closed (λ f b o h. f b o (go b h (dec_lt b here.number)) h) (λ f b o d h. f b o h)
         where
@@ -137,26 +132,19 @@ across_by e (falls h f) = falls (e ∙ h) f
 across_by e (rises h f) = rises (e ∙ h) f
 
 module _ {m s : ℕ} (w : Power m s) (kept : Point → Bool) where
-  pub centres_first : {d : ℕ} → d ≡ s * (side m + 1) - s → PassedCentres m s kept s d true
+  pub centres_first : {n d : ℕ} → n ≡ side m → d ≡ s * (n + 1) - s → PassedCentres m s kept s d true
   unfolding passed_first
-  centres_first e = record { passed = passed_first w kept false 1 (sym (mul-one s)) (omega arith); across = falls refl e }
+  centres_first sided f = let e = rw sided at f in record { passed = passed_first w kept false 1 (sym (mul-one s)) (omega arith); across = falls refl e }
 
   module _ {y d : ℕ} {all : Bool} (here : PassedCentres m s kept y d all) where
     pub centre_row_here : y ≤ side m → CentreRow m s y d
     unfolding line_here
     centre_row_here l = record { line = line_here w kept false 1 here.passed l; across = here.across }
 
-    pub centres_on : {r : Bool} → y ≤ side m → Tells r (LineClosed m kept s false y) →
-        PassedCentres m s kept (y + 2 * s) (2 * (s * (side m + 1)) - d) (all && r)
+    pub centres_on : {n : ℕ} {r : Bool} → n ≡ side m → y ≤ side m → Decides r (LineClosed m kept s false y) →
+        PassedCentres m s kept (y + 2 * s) (2 * (s * (n + 1)) - d) (all && r)
     unfolding passed_on
-    centres_on l t = record { passed = passed_on w kept false 1 here.passed l t; across = across_on (omega arith) here.across }
-
--- s is a power of two up to N, and every lower spacing is closed
-pub record Spacings (m : ℕ) (kept : Point → Bool) (s : ℕ) : Type 0 where
-  pub exponent : ℕ
-  pub power : s ≡ 2 ^ exponent
-  pub most : exponent ≤ m
-  pub closed : (j : ℕ) → j < exponent → SpacingClosed m kept (2 ^ j)
+    centres_on sided l t = rw sided record { passed = passed_on w kept false 1 here.passed l t; across = across_on (omega arith) here.across }
 
 module _ (m : ℕ) (kept : Point → Bool) where
   -- all that the document asks of the set
@@ -199,31 +187,15 @@ module _ (m : ℕ) (kept : Point → Bool) where
       go true c = at_corner p c
       go false c = let f = placed m p h c in in_spacing f (kind_way f) (closed (level m p.x p.y) f.below)
 
-  pub spacings_first : Spacings m kept 1
-  spacings_first = record { exponent = 0; power = refl; most = omega arith; closed = λ j l. absurd (omega arith) }
-
-  module _ {s : ℕ} (here : Spacings m kept s) where
-    pub power_here : s < side m → Power m s
-    power_here l = record { exponent = here.exponent; power = here.power; below = exponent_below (rw here.power at l) }
-
-    pub spacings_not : {r : Bool} → Tells r (SpacingClosed m kept s) → r ≡ false → false ≡ every (supported m kept) (points m)
-    spacings_not t e = tells_same false _ (tells_not t e (spacing_all s)) (every_point m (supported m kept))
-
-    pub spacings_on : {r : Bool} → s < side m → Tells r (SpacingClosed m kept s) → r ≡ true → Spacings m kept (2 * s)
-    unfolding power_here
-    spacings_on l t e =
-        record {
-          exponent = suc here.exponent;
-          power = ap (λ (n : ℕ). 2 * n) here.power ∙ sym (pow-suc 2 here.exponent ∙ mul_comm (2 ^ here.exponent) 2);
-          most = (power_here l).below;
-          closed = λ j h. go j h (dec_lt j here.exponent);
-        }
-      where
-        go : (j : ℕ) → j < suc here.exponent → Dec (j < here.exponent) → SpacingClosed m kept (2 ^ j)
-        go j h (yes d) = here.closed j d
-        go j h (no d) = let f : here.exponent ≡ j = omega arith in rw (here.power, f) at (t.0 e)
-
-    pub spacings_last : side m ≤ s → true ≡ every (supported m kept) (points m)
-    spacings_last l =
-        let most : m ≤ here.exponent = exponent_most (rw here.power at l) in
-        sym ((every_point m (supported m kept)).1 (spacings_all (λ j h. here.closed j (omega arith))))
+  -- told by what an iterator's `all` has found of the spacings 1, 2, .. below N
+  pub spacings_told : (r : Bool) →
+      MatchBool r (AllWithin (λ j. SpacingClosed m kept (2 ^ j)) (range_with_len 0 m) 0 (length (range_with_len 0 m)))
+      ((k : ℕ) × (k < length (range_with_len 0 m)) × HoldsAt (λ j. ¬ (SpacingClosed m kept (2 ^ j))) (range_with_len 0 m) k) →
+      r ≡ every (supported m kept) (points m)
+  spacings_told true all =
+      sym ((every_point m (supported m kept)).1
+      (spacings_all
+      (λ j l.
+      let there : get_or (range_with_len 0 m) j 0 ≡ j = get_or-range_with_len 0 m j 0 l ∙ omega arith in
+      rw there at (all j 0 (omega arith) (rw (length-range_with_len 0 m) l)))))
+  spacings_told false some = sym (false_by _ (λ e. some.2 0 (spacing_all _ ((every_point m (supported m kept)).0 e))))

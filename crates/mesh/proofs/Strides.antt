@@ -25,7 +25,8 @@ use Rattle.grid.proofs.Reach.{Between, between_by}
 use Rattle.grid.proofs.Rows.{way_odd, sited}
 use Rattle.selection.proofs.Sweeps.{half, wide}
 use Rattle.mesh.specs.Closed.{every, kept_by, supported}
-use Rattle.mesh.specs.Inner.{kept_place, Plain, Tells, Backed, BackedAlong, Stride, unit, Across, falls, rises}
+use Rattle.std.specs.Bool.{Decides}
+use Rattle.mesh.specs.Inner.{kept_place, Backed, BackedAlong, Stride, unit, Across, falls, rises}
 use Rattle.mesh.proofs.Passing.{line_test}
 
 -- the place of a point on a line
@@ -200,12 +201,11 @@ module _ {m s : ℕ} (w : Power m s) (turned : Bool) (c first by : ℕ) where
               omega arith,
         )
 
-    module _ {marks : List ℕ} {before after : ℕ} (plain : Plain marks) (long : length marks ≡ samples m)
+    module _ {marks : List ℕ} {before after : ℕ} (long : length marks ≡ samples m)
         (looked : (k : ℕ) → s * number k < side m → Looked m marks (there k) before after) where
       pub stride : 0 < step → step ≤ 4 * samples largest → m ≤ largest → Stride marks from to step before after
       stride on short small =
           record {
-            plain = plain;
             on = on;
             short = short;
             small = omega (arith, samples_small small);
@@ -213,8 +213,8 @@ module _ {m s : ℕ} (w : Power m s) (turned : Bool) (c first by : ℕ) where
           }
 
       -- asked by places, it is told of the points
-      pub told_stride : {r : Bool} → Tells r (BackedAlong marks from to step before after) →
-          Tells r ((k : ℕ) → s * number k < side m → supported m (kept_by m marks) (there k) ≡ true)
+      pub told_stride : {r : Bool} → Decides r (BackedAlong marks from to step before after) →
+          Decides r ((k : ℕ) → s * number k < side m → supported m (kept_by m marks) (there k) ≡ true)
       told_stride t = (
         λ e k l. (looked k l).is.1 (rw (place_there k) at (t.0 e k ((below k).1 l))),
         λ f. t.1 (λ k l. rw (place_there k) ((looked k ((below k).0 l)).is.0 (f k ((below k).0 l)))),
@@ -231,9 +231,6 @@ module _ {marks : List ℕ} {from step before after : ℕ} where
   gone_first = record { steps = 0; place = omega (arith, mul-zero step); backed = λ k l. absurd (omega arith) }
 
   module _ {i : ℕ} (here : Gone marks from step before after i) where
-    pub gone_room : {to : ℕ} → Stride marks from to step before after → i < to → (before ≤ i) × (i + after < length marks)
-    gone_room s l = rw here.place (s.inside here.steps (rw here.place at l))
-
     pub gone_on_lem : Backed marks before after i → Gone marks from step before after (i + step)
     gone_on_lem b =
         record {
@@ -246,10 +243,7 @@ module _ {marks : List ℕ} {from step before after : ℕ} where
         go k l (yes d) = here.backed k d
         go k l (no d) = let e : here.steps ≡ k = omega arith in rw (here.place, e) at b
 
-    pub gone_not : {to : ℕ} → i < to → (Backed marks before after i → ⊥) → Tells false (BackedAlong marks from to step before after)
-    gone_not l n = (λ e. absurd (false≢true e), λ all. absurd (n (rw here.place (all here.steps (rw here.place at l)))))
-
-    pub gone_last : {to : ℕ} → to ≤ i → Tells true (BackedAlong marks from to step before after)
+    pub gone_last : {to : ℕ} → to ≤ i → Decides true (BackedAlong marks from to step before after)
     gone_last {to} l = (λ e k h. here.backed k (go k h (dec_lt k here.steps)), λ all. refl)
       where
         go : (k : ℕ) → from + step * k < to → Dec (k < here.steps) → k < here.steps

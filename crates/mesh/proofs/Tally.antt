@@ -6,21 +6,25 @@ use mathlib.Core.List.{List}
 use Prim.Native.Nat.{ℕ, zero, suc, ◌+◌, ◌-◌, ◌*◌, ◌≤◌, ◌<◌}
 use native.Mathlib.Nat.{zero-add, zero-mul, one-mul, suc-mul, add-mul, mul-le-mul_right}
 use native.Mathlib.Decide.{dec_lt}
-use native.Mathlib.Numerals.{add-one}
 use native.Mathlib.Omega.{arith}
-use lib.ListN.{length}
+use lib.ListN.{length, get_or, take, drop}
+use Rattle.std.proofs.lemmas.List.Sums.{sum_by-cons}
+use lib.Seq.{drop-cons}
+use Rattle.std.specs.List.{count_by}
+use Rattle.grid.specs.Inner.{keeps}
+use Rattle.grid.specs.Mark.{left_out}
+use Rattle.mesh.proofs.Every.{slice}
 use lib.Pow.{pow_pos}
-use Rattle.grid.specs.Grid.{Sound, side, samples, largest, widest, at, place, point, entries, on_grid}
+use Rattle.grid.specs.Grid.{side, samples, largest, widest, at, place, point, entries, on_grid}
 use Rattle.grid.specs.Points.{outermost, is_corner}
-use Rattle.grid.specs.declared.Grid.{Grid}
 use Rattle.grid.specs.declared.points.Point.{Point}
-use Rattle.grid.proofs.Places.{side_small, samples_small, point_place}
+use Rattle.grid.proofs.Places.{side_small, point_place}
 use Rattle.selection.specs.Marks.{count}
 use Rattle.selection.proofs.Corners.{at_east}
 use Rattle.selection.proofs.Counts.{one_most}
 use Rattle.mesh.specs.Triangles.{kept_inside, kept_border, number}
 use Rattle.mesh.specs.Closed.{kept_by}
-use Rattle.mesh.specs.Inner.{Plain, kept_place, kept_once, kept_from, kept_between_ends, Row, sum}
+use Rattle.mesh.specs.Inner.{Plain, kept_place, kept_once, kept_from, kept_between_ends, sum}
 use Rattle.mesh.proofs.Trapezoid.{sum_split, touched, touched_sum, not_outermost}
 
 -- by the three tests: a kept point adds 1 for each way in which it is not outermost
@@ -40,17 +44,34 @@ twice : (t : Bool) (n : ℕ) → n + cond t 0 n ≡ touched t n
 twice true n = omega arith
 twice false n = refl
 
-pub kept_next : (marks : List ℕ) (i n : ℕ) → kept_from marks i (suc n) ≡ kept_from marks i n + kept_once marks (i + n)
-kept_next marks i n =
-    ap (sum (kept_once marks) i) (sym (add-one n)) ∙ sum_split (kept_once marks) i n 1 ∙ omega arith
-
 -- a row but for its east end: the west end and those between
-pub kept_west : (marks : List ℕ) (at n : ℕ) → 0 < n → kept_from marks at n ≡ kept_once marks at + kept_between_ends marks at n
+kept_west : (marks : List ℕ) (at n : ℕ) → 0 < n → kept_from marks at n ≡ kept_once marks at + kept_between_ends marks at n
 kept_west marks at zero some = absurd (omega arith)
 kept_west marks at (suc n) some =
     let one : suc at ≡ at + 1 = omega arith in
     let less : n ≡ suc n - 1 = omega arith in
     λ i. kept_once marks at + kept_from marks (one i) (less i)
+
+-- one mark after the other, by the one test
+module _ (marks : List ℕ) (plain : Plain marks) where
+  kept_in : (from n : ℕ) → from + n ≤ length marks → count_by keeps (take n (drop from marks)) ≡ kept_from marks from n
+  kept_in from zero room = refl
+  kept_in from (suc n) room =
+      ap (λ l. count_by keeps (take (suc n) l)) (drop-cons marks from left_out (omega arith))
+      ∙ sum_by-cons (λ mark. cond (keeps mark) 1 0) (get_or marks from left_out) (take n (drop (suc from) marks))
+      ∙ (λ i. cond (plain from i) 1 0 + kept_in (suc from) n (omega arith) i)
+
+  pub kept_there : {r : ℕ} (i : ℕ) {j : ℕ} → j ≡ i → r ≡ cond (keeps (get_or marks j left_out)) 1 0 → r ≡ kept_once marks i
+  kept_there i {j} e told = told ∙ ap (λ (t : Bool). cond t 1 0) (plain j) ∙ ap (kept_once marks) e
+
+  pub kept_slice : {r : ℕ} (from to n : ℕ) → to ≤ length marks → from + n ≡ to → r ≡ count_by keeps (slice from to marks) → r ≡ kept_from marks from n
+  kept_slice from to n room e told =
+      let long : to - from ≡ n = omega arith in told ∙ kept_in from (to - from) (omega arith) ∙ ap (kept_from marks from) long
+
+  -- so told, a row but for its east end
+  pub row_told : (m i : ℕ) {n k : ℕ} → n ≡ side m → i + side m < length marks → k ≡ count_by keeps (slice i (i + n) marks) →
+      k ≡ kept_once marks i + kept_between_ends marks i (side m)
+  row_told m i {n} sided room told = kept_slice i (i + n) (side m) (omega arith) (omega arith) told ∙ kept_west marks i (side m) (pow_pos m)
 
 pub kept_most : (marks : List ℕ) (i n : ℕ) → kept_from marks i n ≤ n
 kept_most marks i zero = omega arith
@@ -127,33 +148,18 @@ adds_most m marks i (suc n) =
 rows : (m : ℕ) → samples m ≡ side m * (side m + 1) + (side m + 1)
 rows m = omega (arith, add-mul (side m) 1 (side m + 1), one-mul (side m + 1))
 
-module _ (marks : List ℕ) (at n : ℕ) (wide : n ≤ widest) where
-  pub ends_most : {k : ℕ} → k ≡ kept_between_ends marks at n → k ≤ widest
-  ends_most e = omega (arith, kept_most marks (at + 1) (n - 1))
+module _ (marks : List ℕ) (at m : ℕ) (small : m ≤ largest) where
+  pub ends_most : {k : ℕ} → k ≡ kept_between_ends marks at (side m) → k ≤ widest
+  ends_most e = omega (arith, kept_most marks (at + 1) (side m - 1), side_small small)
 
-  pub row_most : {west east k : ℕ} → west ≡ kept_once marks at → east ≡ kept_once marks (at + n) → k ≡ kept_between_ends marks at n →
+  pub row_most : {west east k : ℕ} → west ≡ kept_once marks at → east ≡ kept_once marks (at + side m) → k ≡ kept_between_ends marks at (side m) →
       west + east + 2 * k ≤ 2 + 2 * widest
-  row_most ew ee ek = omega (arith, one_most (kept_place marks at) ew, one_most (kept_place marks (at + n)) ee, ends_most ek)
-
--- as the code asks, with its own N
-module _ {g : Grid} (sound : Sound g) where
-  pub grid_small : (g.side ≤ widest) × (g.side * (g.side + 1) ≤ samples largest)
-  grid_small = rw sound.sided (side_small sound.small, omega (arith, rows g.m, samples_small sound.small))
-
-  pub row_at : {marks : List ℕ} {at : ℕ} → Plain marks → length marks ≡ samples g.m → at ≤ g.side * (g.side + 1) → Row marks at g.side
-  row_at plain long l =
-      record {
-        plain = plain;
-        small = omega (arith, samples_small sound.small);
-        some = rw sound.sided (pow_pos g.m);
-        wide = grid_small.0;
-        room = omega (arith, rows g.m, rw sound.sided at l, sound.sided);
-      }
+  row_most ew ee ek = omega (arith, one_most (kept_place marks at) ew, one_most (kept_place marks (at + side m)) ee, ends_most ek)
 
 module _ (m : ℕ) (marks : List ℕ) where
-  pub counted_first : {at triangles south north : ℕ} → at ≡ side m + 1 → south ≡ kept_between_ends marks 0 (side m) →
+  counted_first_lem : {at triangles south north : ℕ} → at ≡ side m + 1 → south ≡ kept_between_ends marks 0 (side m) →
       north ≡ kept_between_ends marks (side m * (side m + 1)) (side m) → triangles ≡ 2 + south + north → Counted m marks at triangles
-  counted_first e es en et =
+  counted_first_lem e es en et =
       let row = row_adds m marks 0 (omega arith) {i = 0} (sym (zero-mul (side m + 1))) in
       record {
         row = 1;
@@ -175,10 +181,10 @@ module _ (m : ℕ) (marks : List ℕ) where
     more : (n : ℕ) → sum (adds m marks) 0 (at + n) ≡ sum (adds m marks) 0 at + sum (adds m marks) at n
     more n = rw zero-add at (sum_split (adds m marks) 0 at n)
 
-    pub counted_next : at < side m * (side m + 1) → {r : ℕ} →
+    counted_next_lem : at < side m * (side m + 1) → {r : ℕ} →
         r ≡ kept_once marks at + kept_once marks (at + side m) + 2 * kept_between_ends marks at (side m) →
         Counted m marks (at + (side m + 1)) (triangles + r)
-    counted_next l e =
+    counted_next_lem l e =
         let row = rw (not_outermost m c.row c.first (inner l)) at (row_adds m marks c.row c.last c.from) in
         record {
           row = suc c.row;
@@ -188,8 +194,8 @@ module _ (m : ℕ) (marks : List ℕ) where
           so = omega (arith, c.so, row, more (side m + 1));
         }
 
-    pub counted_last : side m * (side m + 1) ≤ at → triangles ≡ number m (kept_by m marks)
-    counted_last l =
+    counted_last_lem : side m * (side m + 1) ≤ at → triangles ≡ number m (kept_by m marks)
+    counted_last_lem l =
         let far : at ≤ side m * (side m + 1) = rw c.from (mul-le-mul_right (side m + 1) c.last) in
         let end : at ≡ side m * (side m + 1) = omega arith in
         let row = rw (at_east m) at (row_adds m marks (side m) (omega arith) end) in
@@ -197,7 +203,25 @@ module _ (m : ℕ) (marks : List ℕ) where
         let so = rw (← end) at c.so in
         omega (arith, number_sum m marks, ap (sum (adds m marks) 0) all, more (side m + 1), row, so)
 
-    pub counted_most : at ≤ side m * (side m + 1) → triangles ≤ 2 + 4 * samples m
-    counted_most l =
+    counted_most_lem : at ≤ side m * (side m + 1) → triangles ≤ 2 + 4 * samples m
+    counted_most_lem l =
         let most = kept_most marks (side m * (side m + 1) + 1) (side m - 1) in
         omega (arith, c.so, adds_most m marks 0 at, rows m, most)
+
+-- the same, with n as the code has it for N
+module _ (m : ℕ) (marks : List ℕ) {n : ℕ} (sided : n ≡ side m) where
+  pub counted_first : {south north : ℕ} → south ≡ kept_between_ends marks 0 (side m) → north ≡ kept_between_ends marks (n * (n + 1)) (side m) →
+      Counted m marks (n + 1) (2 + south + north)
+  counted_first es en = counted_first_lem m marks (rw sided) es (rw sided at en) refl
+
+  module _ {at triangles : ℕ} (c : Counted m marks at triangles) where
+    pub counted_next : at < n * (n + 1) → {r : ℕ} →
+        r ≡ kept_once marks at + kept_once marks (at + side m) + 2 * kept_between_ends marks at (side m) →
+        Counted m marks (at + (n + 1)) (triangles + r)
+    counted_next l e = rw sided (counted_next_lem m marks c (rw sided at l) e)
+
+    pub counted_last : n * (n + 1) ≤ at → triangles ≡ number m (kept_by m marks)
+    counted_last l = counted_last_lem m marks c (rw sided at l)
+
+    pub counted_most : at ≤ n * (n + 1) → triangles ≤ 2 + 4 * samples m
+    counted_most l = counted_most_lem m marks c (rw sided at l)

@@ -5,7 +5,7 @@ use Rattle.grid.specs.Points.{is_corner, depends_on}
 use Rattle.grid.specs.Mark.{good_mark, kept_mark}
 use Rattle.grid.specs.declared.points.Point.{Point}
 use Rattle.selection.specs.Marks.{mark_at}
-use Rattle.selection.specs.Selected.{corners}
+use Rattle.grid.specs.Grid.{corners}
 use Rattle.mesh.specs.Triangles.{points}
 
 -- whether f holds of every member of a list

@@ -1,13 +1,26 @@
 -- What functions inside this crate may ask and what they promise one another. No rule rests on it. Definitions only.
-use Rattle.std.specs.Prelude.{◌≡◌, Bool, true, false, cond, ◌↔◌, List, [], ◌∷◌, ◌++◌, ℕ, zero, suc, ◌+◌, ◌-◌, ◌*◌, ◌%◌, ◌≤◌, ◌<◌, length, get_or}
+use Rattle.std.specs.Prelude.{◌≡◌, Bool, true, false, cond, List, [], ◌∷◌, ◌++◌, ℕ, zero, suc, ◌+◌, ◌-◌, ◌*◌, ◌%◌, ◌≤◌, ◌<◌, length, get_or, Result, Ok, Err}
 use Rattle.std.proofs.lemmas.List.Edits.{sets}
-use Rattle.grid.specs.Grid.{Sound, side, samples, largest, widest, entries, midplace}
+use Rattle.grid.specs.Grid.{side, samples, largest, midplace}
 use Rattle.grid.specs.Points.{odd, laid}
 use Rattle.grid.specs.Mark.{left_out, good_mark, kept_mark}
-use Rattle.grid.specs.declared.Grid.{Grid}
 use Rattle.grid.specs.declared.points.Point.{Point}
-use Rattle.grid.specs.Inner.{Power, keeps}
+use Rattle.grid.specs.Inner.{keeps}
+use Rattle.grid.specs.Refusal.{accepted, no_room, number}
+use Rattle.grid.specs.declared.refusals.Refusal.{Refusal}
+use Rattle.grid.specs.declared.refusals.Refusal.TheVariants.{NoRoom}
+use Rattle.mesh.specs.declared.Meshed.{Meshed}
 use Rattle.mesh.specs.Closed.{supported}
+
+-- the answer to a call that is turned down: the triangles needed go with a want of room alone
+abbrev pub refused : Refusal → Meshed
+refused (NoRoom triangles) = record { refusal = no_room; triangles = triangles }
+refused other = record { refusal = number other; triangles = 0 }
+
+-- the answer by what was found before anything is written: the number of triangles, or a refusal
+abbrev pub outcome : Result ℕ Refusal → Meshed
+outcome (Ok triangles) = record { refusal = accepted; triangles = triangles }
+outcome (Err r) = refused r
 
 -- whether the mark at a place keeps its point
 abbrev pub kept_place : List ℕ → ℕ → Bool
@@ -29,14 +42,6 @@ kept_once marks i = cond (kept_place marks i) 1 0
 -- how many of the n marks from a place on keep their point
 abbrev pub kept_from : List ℕ → ℕ → ℕ → ℕ
 kept_from marks i n = sum (kept_once marks) i n
-
--- from a place on, the marks of a row that is n cells long
-pub record Row (marks : List ℕ) (at n : ℕ) : Type 0 where
-  pub plain : Plain marks
-  pub small : length marks ≤ samples largest
-  pub some : 0 < n
-  pub wide : n ≤ widest
-  pub room : at + n < length marks
 
 -- how many of a row's marks between its two ends keep their point
 abbrev pub kept_between_ends : List ℕ → ℕ → ℕ → ℕ
@@ -80,14 +85,6 @@ pub record Put (list : List ℕ) (at : ℕ) (buffer : List ℕ) (next : ℕ) (bu
 abbrev pub good_inner : List ℕ → ℕ → Bool
 good_inner marks i = good_mark false (get_or marks i left_out)
 
--- the places from one on and before another
-abbrev pub between : ℕ → ℕ → List ℕ
-between from to = entries (λ i. i) from (to - from)
-
--- r tells whether P holds
-abbrev pub Tells : Bool → Type 0 → Type 0
-Tells r P = (r ≡ true) ↔ P
-
 -- if the sample at a place is kept, so are those that lie so many places before and after it
 abbrev pub Backed : List ℕ → ℕ → ℕ → ℕ → Type 0
 Backed marks before after i = kept_place marks i ≡ true → (kept_place marks (i - before) ≡ true) × (kept_place marks (i + after) ≡ true)
@@ -98,7 +95,6 @@ BackedAlong marks from to step before after = (k : ℕ) → from + step * k < to
 
 -- there are marks at all those places, and before and after them
 pub record Stride (marks : List ℕ) (from to step before after : ℕ) : Type 0 where
-  pub plain : Plain marks
   pub on : 0 < step
   pub short : step ≤ 4 * samples largest
   pub small : length marks ≤ samples largest
@@ -107,13 +103,6 @@ pub record Stride (marks : List ℕ) (from to step before after : ℕ) : Type 0 
 -- how many places on the next point along a line lies: an east-west line, or turned to a north-south one
 abbrev pub unit : ℕ → Bool → ℕ
 unit m turned = cond turned (side m + 1) 1
-
--- a grid's marks, and a spacing below N
-pub record Spaced (g : Grid) (marks : List ℕ) (s : ℕ) : Type 0 where
-  pub sound : Sound g
-  pub long : length marks ≡ samples g.m
-  pub plain : Plain marks
-  pub power : Power g.m s
 
 -- the line c is an even or an odd number of s away from the square's side
 pub record Line (m s parity c : ℕ) : Type 0 where

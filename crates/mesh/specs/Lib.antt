@@ -3,3 +3,4 @@ pub mod Closed
 pub mod Meshed
 pub mod Rule
 pub mod Inner
+pub mod Kept

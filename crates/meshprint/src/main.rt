@@ -1,9 +1,8 @@
 // Reads a frame from standard input and prints its triangles, or its refusal. What it prints is proved in `listing`; here is only input and output.
 #![tactic(auto)]
 
-ghost use Rattle.std.specs.Prelude.{◌≡◌, suc, length};
-ghost use Rattle.std.specs.Io.{ReadsAtMost, WritesAtMost};
-ghost use Rattle.std.specs.Counts.{IsPrefixLen};
+ghost use Rattle.std.specs.Prelude.{◌≡◌, ◌≤◌, suc, length, IfOk};
+ghost use Rattle.std.specs.Fn.{AlwaysReturns};
 ghost use Rattle.frame.specs.Frame.{longest};
 
 use frame::Frame;
@@ -25,67 +24,54 @@ fn may_try_again(moved: &io::Result<usize>) -> bool {
     let Err(error) = moved else {
         return false;
     };
-    let kind = error.kind();
-    if kind == ErrorKind::WouldBlock {
+    if error.kind() == ErrorKind::WouldBlock {
         thread::yield_now();
-        return true;
     }
-    kind == ErrorKind::Interrupted
+    matches!(error.kind(), ErrorKind::WouldBlock | ErrorKind::Interrupted)
 }
 
-fn read_some<R: Read>(reader: &mut R, part: &mut [u8]) -> io::Result<usize>
-    ensures { ReadsAtMost result part.new }
+// Makes a call until it moves something, ends or fails for good: it answers at most `most`.
+fn tried<F: FnMut() -> io::Result<usize>>(most: usize, mut call: F) -> io::Result<usize>
+    requires callable { F.IsAlwaysCallable call }
+    requires at_most { AlwaysReturns F.FnMut (λ _ moved. IfOk moved (λ n. n ≤ most)) call }
+    ensures { IfOk result (λ n. n ≤ most) }
 {
-    let mut got = reader.read(part);
-    let mut tries = MOST_TRIES;
-    while tries > 0 && may_try_again(&got) {
-        tries -= 1;
-        got = reader.read(part);
+    for _ in 0..MOST_TRIES {
+        let moved = call();
+        if !may_try_again(&moved) {
+            return moved;
+        }
     }
-    got
+    call()
 }
 
-fn write_some(rt: &impl Print, part: &[u8]) -> io::Result<usize>
-    ensures { WritesAtMost result part.now }
-{
-    let mut put = rt.write_some(part);
-    let mut tries = MOST_TRIES;
-    while tries > 0 && may_try_again(&put) {
-        tries -= 1;
-        put = rt.write_some(part);
-    }
-    put
-}
-
-// Reads until the input ends or there is no more room, and answers how many bytes came. Of an input that can't be read to its end it
-// answers none: it is no frame, whatever came of it.
-fn read_input(rt: &(impl Input + Eprint), input: &mut [u8]) -> usize
-    ensures { IsPrefixLen result input.new }
+// Reads until the input ends or there is no more room.
+fn read_input<'a>(rt: &impl Input, input: &'a mut [u8]) -> io::Result<&'a [u8]>
+    ensures { IfOk result (λ came. length came.now ≤ length input.old) }
 {
     let mut reader = rt.reader();
     let mut done = 0;
+    // Stays a `while`: each turn goes on by as many bytes as came.
     while done < input.len() {
-        match read_some(&mut reader, &mut input[done..]) {
-            Ok(0) => return done,
-            Ok(more) => done += more,
-            Err(error) => {
-                let _ = eprintln!(rt; "meshprint: standard input: {error}");
-                return 0;
-            }
+        let part = &mut input[done..];
+        match tried(part.len(), || reader.read(part))? {
+            0 => break,
+            more => done += more,
         }
     }
-    done
+    Ok(&input[..done])
 }
 
 fn write_text(rt: &(impl Print + Eprint), text: &[u8]) {
-    let mut done = 0;
-    while done < text.len() {
-        match write_some(rt, &text[done..]) {
+    let mut rest = text;
+    // Stays a `while`: each turn goes on by as many bytes as were taken.
+    while !rest.is_empty() {
+        match tried(rest.len(), || rt.write_some(rest)) {
             Ok(0) => {
                 let _ = eprintln!(rt; "meshprint: standard output: nothing was written");
                 return;
             }
-            Ok(more) => done += more,
+            Ok(done) => rest = &rest[done..],
             Err(error) => {
                 let _ = eprintln!(rt; "meshprint: standard output: {error}");
                 return;
@@ -96,8 +82,15 @@ fn write_text(rt: &(impl Print + Eprint), text: &[u8]) {
 
 fn main(rt: HostRuntime) {
     let mut input = room();
-    let n = read_input(&rt, &mut input);
-    let mut out = [0u8; listing::MOST_BYTES];
-    let k = listing::text_of(&input[..n], &mut out);
-    write_text(&rt, &out[..k]);
+    let mut out = [0; listing::MOST_BYTES];
+    let frame = match read_input(&rt, &mut input) {
+        Ok(frame) => frame,
+        // An input that can't be read to its end is no frame, whatever came of it.
+        Err(error) => {
+            let _ = eprintln!(rt; "meshprint: standard input: {error}");
+            &[]
+        }
+    };
+    let n = listing::text_of(frame, &mut out);
+    write_text(&rt, &out[..n]);
 }

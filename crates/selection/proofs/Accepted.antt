@@ -11,7 +11,7 @@ use Rattle.selection.specs.Rule.{Lengths, Turned, size, lengths, tolerance, corn
 use Rattle.selection.proofs.Corners.{corners_surveyed, corners_void}
 
 module _ (h : Handed) where
-  lengths_right : right_lengths h ≡ true → Lengths h
+  pub lengths_right : right_lengths h ≡ true → Lengths h
   lengths_right e =
       let n = samples h.m in
       let others = eqb (length h.marks) n && eqb (length h.heights) n in
@@ -23,7 +23,7 @@ module _ (h : Handed) where
         heights = eqb-true (length h.heights) n q.1;
       }
 
-  right_lengths_lem : Lengths h → right_lengths h ≡ true
+  pub right_lengths_lem : Lengths h → right_lengths h ≡ true
   right_lengths_lem l =
       let n = samples h.m in
       rw (eq-eqb (length h.survey) n l.survey, eq-eqb (length h.marks) n l.marks, eq-eqb (length h.heights) n l.heights)

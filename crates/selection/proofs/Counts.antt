@@ -12,20 +12,16 @@ module _ {A : Type 0} (f : A → Bool) where
   count_most (suc i) [] = omega arith
   count_most (suc i) (a ∷ l) = omega (arith, count_most i l, one_most (f a) refl)
 
-  count_append : (l k : List A) → count f (l ++ k) ≡ count f l + count f k
+  pub count_length : (l : List A) → count f l ≤ length l
+  count_length [] = omega arith
+  count_length (a ∷ l) = omega (arith, count_length l, one_most (f a) refl)
+
+  pub count_append : (l k : List A) → count f (l ++ k) ≡ count f l + count f k
   count_append [] k = omega arith
   count_append (a ∷ l) k = omega (arith, count_append l k)
 
-  -- of those from one place on and before another n count
-  pub record Told (l : List A) (from i n : ℕ) : Type 0 where
-    pub most : from + n ≤ i
-    pub more : count f (take from l) + n ≡ count f (take i l)
-
-  pub told_none : (l : List A) (from : ℕ) → Told l from from 0
-  told_none l from = record { most = omega arith; more = omega arith }
-
-  pub told_next : (l : List A) {from i n x : ℕ} (d : A) → i < length l → Told l from i n → x ≡ cond (f (get_or l i d)) 1 0 →
-      Told l from (i + 1) (n + x)
-  told_next l {i = i} d h t g =
-      let next = ap (count f) (take-suc l i d h) ∙ count_append (take i l) (get_or l i d ∷ []) in
-      record { most = omega (arith, t.most, one_most (f (get_or l i d)) g); more = rw (add-one i) (omega (arith, t.more, next)) }
+  -- with the next
+  pub count_next : (l : List A) {i n x : ℕ} (d : A) → i < length l → n ≡ count f (take i l) → x ≡ cond (f (get_or l i d)) 1 0 →
+      n + x ≡ count f (take (i + 1) l)
+  count_next l {i = i} d h e g =
+      let next = ap (count f) (take-suc l i d h) ∙ count_append (take i l) (get_or l i d ∷ []) in rw (add-one i) (omega (arith, next))

@@ -10,12 +10,11 @@ pub mod Counting
 pub mod Exact
 pub mod Within
 pub mod InTurn
-pub mod Nearby
 pub mod Judged
 pub mod Final
 pub mod Swept
-pub mod Along
 pub mod Strides
+pub mod Along
 pub mod Sweeps
 pub mod Ranks
 pub mod Answered

@@ -1,177 +1,119 @@
--- The two ways along a row: edge points every second column, in one go; centres every fourth, in two runs, so that in each their ends lie
--- along one diagonal.
-use Rattle.std.proofs.Common.{◌≡◌, ℕ, suc, ◌+◌, ◌*◌, ◌%◌, ◌^◌, ◌<◌, ◌≤◌, ◌⊎◌, List, sym, refl, ap, ◌∙◌, inl, inr, arith}
+-- A run of points of one kind along a row, every second column or every fourth: what is done before it begins, from one of its columns
+-- to the next, and when it ends.
+use Rattle.std.proofs.Common.{◌≡◌, ℕ, suc, ◌+◌, ◌*◌, ◌%◌, ◌^◌, ◌<◌, ◌≤◌, ◌⊎◌, sym, ◌∙◌, inl, inr, arith}
 use native.Mathlib.Decide.{dec_lt, ℕ_discrete}
-use Rattle.grid.specs.Grid.{side, at, Inside}
-use Rattle.grid.specs.Points.{level, units, rank}
+use Rattle.grid.specs.Grid.{side, Inside}
+use Rattle.grid.specs.Points.{units, rank}
 use Rattle.grid.specs.declared.points.Point.{Point}
 use Rattle.grid.specs.declared.points.Kind.{Kind}
-use Rattle.grid.specs.declared.points.Kind.TheVariants.{Rising, Falling}
-use Rattle.grid.proofs.Around.{Way, rise, fall}
-use Rattle.grid.proofs.Placed.{Placed, measured, kind_way}
-use Rattle.grid.proofs.Rows.{next_east, sited, rank_alike}
-use Rattle.grid.specs.Inner.{Sited, EdgeKind, CentreKind, next_kind}
-use Rattle.selection.specs.Inner.{Final, Swept, corner, finer, row, column, Ran, swept, earlier, along}
-use Rattle.selection.proofs.Final.{final_at}
-use Rattle.selection.proofs.Swept.{alike, same_there, column_inside, past}
-use Rattle.selection.proofs.Along.{Stride, origin, unit}
+use Rattle.grid.specs.declared.points.Kind.TheVariants.{Corner, EastWest, NorthSouth, Rising, Falling}
+use Rattle.grid.proofs.Around.{Way, row, column, rise, fall}
+use Rattle.grid.proofs.Placed.{Placed}
+use Rattle.selection.specs.Inner.{Swept, corner, finer, row as rows, stride, Ran, swept, earlier, along}
+use Rattle.selection.proofs.Swept.{alike, same_there, column_inside}
 
--- what is done in the row of p
-abbrev pub in_row : ℕ → Point → ℕ → Point → Type 0
-in_row m p = Swept m (rank m p) (units m p).up
+-- numbers told apart by n, which is even
+pub record Steps (n : ℕ) : Type 0 where
+  pub positive : 0 < n
+  pub less : (u : ℕ) → u % n < n
+  pub even : (a c : ℕ) → a % n ≡ c → a % 2 ≡ c % 2
+  pub again : (a : ℕ) → (a + n) % n ≡ a % n
+  pub same : (a u : ℕ) → a % n ≡ u % n → u < a + n → ¬ (u < a) → u ≡ a
+  pub lowest : (u : ℕ) → u % n ≤ u
+  pub at_zero : (u : ℕ) → u % n < 1 → u % 2 ≡ 0
+  pub next : (u c : ℕ) → u % 2 ≡ c % 2 → u % n < c + 2 → ¬ (u % n < c) → u % n ≡ c
 
-abbrev pub in_run : ℕ → Point → ℕ → Point → Type 0
-in_run m p = Ran m (rank m p) (units m p).up (units m p).across
+two : Steps 2
+two = record {
+  positive = omega arith;
+  less = λ u. omega arith;
+  even = λ a c e. omega (arith, e);
+  again = λ a. omega arith;
+  same = λ a u e l n. omega (arith, e);
+  lowest = λ u. omega arith;
+  at_zero = λ u l. omega arith;
+  next = λ u c e l n. omega (arith, e);
+}
 
--- past the run of p, and past the row
-abbrev past_run : ℕ → Point → Point → Type 0
-past_run m p = Ran m (rank m p) (units m p).up ((units m p).across + 2) 0
+four : Steps 4
+four = record {
+  positive = omega arith;
+  less = λ u. omega arith;
+  even = λ a c e. omega (arith, e);
+  again = λ a. omega arith;
+  same = λ a u e l n. omega (arith, e);
+  lowest = λ u. omega arith;
+  at_zero = λ u l. omega arith;
+  next = λ u c e l n. omega (arith, e);
+}
 
-abbrev past_row : ℕ → Point → Point → Type 0
-past_row m p = Swept m (rank m p) (suc (units m p).up) 0
+pub steps : (k : Kind) → Steps (stride k)
+steps Corner = two
+steps EastWest = two
+steps NorthSouth = two
+steps Rising = four
+steps Falling = four
 
--- the kind of the next edge point of a row is the same
-edge_stays : {k : Kind} → EdgeKind k → next_kind k ≡ k
-edge_stays (inl e) = rw e
-edge_stays (inr e) = rw e
+-- a stride in cells
+pub stepped : (k : Kind) {s : ℕ} → 0 < s → (0 < stride k * s) × (stride k * s ≤ 4 * s)
+stepped Corner l = (omega arith, omega arith)
+stepped EastWest l = (omega arith, omega arith)
+stepped NorthSouth l = (omega arith, omega arith)
+stepped Rising l = (omega arith, omega arith)
+stepped Falling l = (omega arith, omega arith)
 
--- a centre's turns, two columns on, and four columns on it is the same again
-centre_returns : {k : Kind} → CentreKind k → next_kind (next_kind k) ≡ k
-centre_returns (inl e) = rw e
-centre_returns (inr e) = rw e
+-- a stride on, the kind is the same
+pub way_on : {a b : ℕ} {k : Kind} → Way a b k → Way (a + stride k) b k
+way_on (row oa eb) = row (omega arith) eb
+way_on (column ea ob) = column (omega arith) ob
+way_on (rise oa ob t) = rise (omega arith) ob (omega arith)
+way_on (fall oa ob t) = fall (omega arith) ob (omega arith)
 
-pub centre_turns : {k : Kind} → CentreKind k → CentreKind (next_kind k)
-centre_turns (inl e) = inr (ap next_kind e)
-centre_turns (inr e) = inl (ap next_kind e)
-
-four_on : {a b : ℕ} {k : Kind} → CentreKind k → Way a b k → Way (a + 4) b k
-four_on {a} e w = let four : a + 2 + 2 ≡ a + 4 = omega arith in rw (centre_returns e, four) at (next_east (next_east w))
-
--- and its column is odd
-rising_odd : {a b : ℕ} → Way a b Rising → a % 2 ≡ 1
-rising_odd (rise oa ob t) = oa
-
-falling_odd : {a b : ℕ} → Way a b Falling → a % 2 ≡ 1
-falling_odd (fall oa ob t) = oa
-
-pub centre_odd : {m s : ℕ} {p : Point} {k : Kind} → Sited m p k s → CentreKind k → (units m p).across % 2 ≡ 1
-centre_odd start (inl e) = rising_odd (rw (sym start.kinded ∙ e) at (kind_way (origin start)))
-centre_odd start (inr e) = falling_odd (rw (sym start.kinded ∙ e) at (kind_way (origin start)))
-
--- along a row of edge points
-pub edges : {m s : ℕ} {p : Point} {k : Kind} → Sited m p k s → Stride m 2 p EdgeKind (in_row m p)
-edges {m} {s} {p} start =
-    record {
-      even = λ a b e. e;
-      again = λ a b e. omega (arith, e);
-      stays = λ e w. rw (edge_stays e) at (next_east w);
-      lower = λ a q l. finer l;
-      grows = λ t e r o h d. rw r at (past t o h (rw r d));
-    }
-
--- along one run of centres
-module _ {m j a b c : ℕ} {q : Point} (g : Placed m j a b q) where
-  run_past : a % 4 ≡ c → (p : Point) → Inside m p → Ran m (rank m q) b c (a + 4) p → (p ≡ q) ⊎ Ran m (rank m q) b c a p
-  run_past k p h (swept d) = inr (swept d)
-  run_past k p h (earlier e u l) = inr (earlier e u l)
-  run_past k p h (along e u t l) = by (dec_lt (units m p).across a)
+module _ {m j a b : ℕ} {q : Point} (g : Placed m j a b q) (k : Kind) where
+  -- past a column of the run of c: it is one point more, and a stride on nothing else is
+  pub run_past : {c : ℕ} → a % stride k ≡ c → (p : Point) → Inside m p → Ran m (stride k) (rank m q) b c (a + stride k) p →
+      (p ≡ q) ⊎ Ran m (stride k) (rank m q) b c a p
+  run_past e p h (swept d) = inr (swept d)
+  run_past e p h (earlier r u l) = inr (earlier r u l)
+  run_past {c} e p h (along r u t l) = by (dec_lt (units m p).across a)
     where
-      by : Dec ((units m p).across < a) → (p ≡ q) ⊎ Ran m (rank m q) b c a p
-      by (yes d) = inr (along e u t d)
-      by (no d) = inl (same_there g p h e u (omega (arith, t, k)))
+      by : Dec ((units m p).across < a) → (p ≡ q) ⊎ Ran m (stride k) (rank m q) b c a p
+      by (yes d) = inr (along r u t d)
+      by (no d) = inl (same_there g p h r u ((steps k).same a (units m p).across (e ∙ sym t) l d))
 
-  -- a run begins in column 1 or 3, with nothing before it
-  pub run_begun : c ≤ 3 → (p : Point) → Inside m p → Ran m (rank m q) b c c p → Ran m (rank m q) b c 0 p
-  run_begun l p h (swept d) = swept d
-  run_begun l p h (earlier e u k) = earlier e u k
-  run_begun l p h (along e u t k) = absurd (omega (arith, t))
+  parity : (p : Point) → Inside m p → rank m p ≡ rank m q → (units m p).up ≡ b → (units m p).across % 2 ≡ a % 2
+  parity p h r u = omega (arith, (alike g p h r).sum, u)
 
-  -- a run ends beyond the square
-  pub run_ended : a % 2 ≡ 1 → c % 2 ≡ 1 → (n : ℕ) → side m < 2 ^ j * n → (p : Point) → Inside m p →
-      Ran m (rank m q) b (c + 2) 0 p → Ran m (rank m q) b c n p
-  run_ended oa oc n l p h (swept d) = swept d
-  run_ended oa oc n l p h (along e u t k) = absurd (omega arith)
-  run_ended oa oc n l p h (earlier e u k) = by (dec_lt ((units m p).across % 4) c)
+  -- the run of c begins in column c, with nothing before it
+  pub run_begun : (c : ℕ) (p : Point) → Inside m p → Ran m (stride k) (rank m q) b c c p → Ran m (stride k) (rank m q) b c 0 p
+  run_begun c p h (swept d) = swept d
+  run_begun c p h (earlier r u l) = earlier r u l
+  run_begun c p h (along r u t l) = absurd (omega (arith, t, (steps k).lowest (units m p).across))
+
+  -- it ends beyond the square
+  pub run_ended : (c : ℕ) → a % 2 ≡ c % 2 → (n : ℕ) → side m < 2 ^ j * n → (p : Point) → Inside m p → Ran m (stride k) (rank m q) b (c + 2) 0 p →
+      Ran m (stride k) (rank m q) b c n p
+  run_ended c o n l p h (swept d) = swept d
+  run_ended c o n l p h (along r u t d) = absurd (omega arith)
+  run_ended c o n l p h (earlier r u d) = by (dec_lt ((units m p).across % stride k) c)
     where
-      by : Dec ((units m p).across % 4 < c) → Ran m (rank m q) b c n p
-      by (yes d) = earlier e u d
-      by (no d) = along e u (omega (arith, (alike g p h e).sum, u)) (column_inside g n l p h e)
+      by : Dec ((units m p).across % stride k < c) → Ran m (stride k) (rank m q) b c n p
+      by (yes f) = earlier r u f
+      by (no f) = along r u ((steps k).next (units m p).across c (parity p h r u ∙ o) d f) (column_inside g n l p h r)
 
--- the first run of a row comes after the rows before
-run_first : {m j a b : ℕ} {q : Point} → Placed m j a b q → a % 2 ≡ 1 → (p : Point) → Inside m p →
-    Ran m (rank m q) b 1 0 p → Swept m (rank m q) b 0 p
-run_first g oa p h (swept d) = d
-run_first g oa p h (earlier e u k) = absurd (omega (arith, (alike g p h e).sum, u))
-run_first g oa p h (along e u t k) = absurd (omega arith)
+  -- the first run of a row comes after the rows before
+  pub run_first : a ≤ 1 → (p : Point) → Inside m p → Ran m (stride k) (rank m q) b a 0 p → Swept m (rank m q) b p
+  run_first f p h (swept d) = d
+  run_first f p h (earlier r u l) =
+      absurd (omega (arith, parity p h r u, (steps k).at_zero (units m p).across (omega arith)))
+  run_first f p h (along r u t l) = absurd (omega arith)
 
--- after the second a row is swept
-run_last : {m r b : ℕ} (p : Point) → Swept m r (suc b) 0 p → Ran m r b 5 0 p
-run_last p (corner e) = swept (corner e)
-run_last p (finer l) = swept (finer l)
-run_last p (column e u l) = absurd (omega arith)
-run_last {m} {r} {b} p (row e l) = by (ℕ_discrete (units m p).up b)
+-- after the last a row is swept
+pub run_last : (k : Kind) {m r b c : ℕ} (p : Point) → stride k ≤ c → Swept m r (suc b) p → Ran m (stride k) r b c 0 p
+run_last k p f (corner e) = swept (corner e)
+run_last k p f (finer l) = swept (finer l)
+run_last k {m} {r} {b} {c} p f (rows e l) = by (ℕ_discrete (units m p).up b)
   where
-    by : Dec ((units m p).up ≡ b) → Ran m r b 5 0 p
-    by (yes u) = earlier e u (omega arith)
-    by (no n) = swept (row e (omega arith))
-
-pub centres : {m s : ℕ} {p : Point} {k : Kind} → Sited m p k s → (units m p).across ≤ 3 → Stride m 4 p CentreKind (in_run m p)
-centres {m} {s} {p} start small =
-    record {
-      even = λ a b e. omega (arith, e);
-      again = λ a b e. omega (arith, e);
-      stays = λ e w. four_on e w;
-      lower = λ a q l. swept (finer l);
-      grows = λ t e r o h d. rw r at (run_past {c = (units m p).across} t (omega (arith, e, small)) o h (rw r d));
-    }
-
--- the two runs of a row of centres that begins at (s, y): what each asks, and what they give
-module _ {m s y : ℕ} {k : Kind} (start : Sited m (at s y) k s) (centre : CentreKind k) (first : (units m (at s y)).across ≤ 1) where
-  one : (units m (at s y)).across ≡ 1
-  one = omega (arith, centre_odd start centre)
-
-  pub first_asks : {f : Point → ℕ} {marks : List ℕ} → Final m f (in_row m (at s y) 0) marks → Final m f (in_run m (at s y) 0) marks
-  first_asks final = rw one (final_at final (run_first (origin start) (centre_odd start centre)))
-
-  -- the second run begins at (3s, y)
-  three : 3 * s ≡ 2 ^ level m s y * 3
-  three = omega (arith, unit start)
-
-  second : 3 * s ≤ side m → Placed m (level m s y) 3 (units m (at s y)).up (at (3 * s) y)
-  second l =
-      record {
-        below = (origin start).below;
-        times = record { east = three; north = (origin start).times.north };
-        odd = inl refl;
-        inside = record { east = l; north = start.inside.north };
-      }
-
-  pub second_sited : 3 * s ≤ side m → Sited m (at (3 * s) y) (next_kind k) s
-  second_sited l =
-      sited (second l) (unit start) (next_east (rw (← start.kinded, one) at (kind_way (origin start))))
-
-  pub second_column : 3 * s ≤ side m → (units m (at (3 * s) y)).across ≡ 3
-  second_column l = (measured (second l)).across
-
-  same_rank : (l : 3 * s ≤ side m) → rank m (at (3 * s) y) ≡ rank m (at s y)
-  same_rank l = rank_alike (second l) (origin start) (rw one) refl
-
-  pub second_asks : {f : Point → ℕ} {marks : List ℕ} → 3 * s ≤ side m → Final m f (past_run m (at s y)) marks →
-      Final m f (in_run m (at (3 * s) y) 0) marks
-  second_asks l final = rw (second_column l, (measured (second l)).up, same_rank l) (rw one at final)
-
-  pub second_gives : {f : Point → ℕ} {marks : List ℕ} → 3 * s ≤ side m →
-      Final m f (past_run m (at (3 * s) y)) marks →
-      Final m f (past_row m (at s y)) marks
-  second_gives l final =
-      let all = rw (second_column l, (measured (second l)).up, same_rank l) at final in
-      final_at all (λ p h d. run_last p d)
-
-  -- where there is none
-  pub first_gives : {f : Point → ℕ} {marks : List ℕ} → side m < 3 * s → Final m f (past_run m (at s y)) marks →
-      Final m f (past_row m (at s y)) marks
-  first_gives l final =
-      let begins = final_at (rw one at final) (run_begun (origin start) (omega arith)) in
-      let far : side m < 2 ^ level m s y * 3 = omega (arith, three) in
-      let ends = final_at begins (run_ended (origin start) (centre_odd start centre) refl 3 far) in
-      final_at ends (λ p h d. run_last p d)
+    by : Dec ((units m p).up ≡ b) → Ran m (stride k) r b c 0 p
+    by (yes u) = earlier e u (omega (arith, (steps k).less (units m p).across))
+    by (no n) = swept (rows e (omega arith))

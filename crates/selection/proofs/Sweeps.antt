@@ -1,9 +1,8 @@
 -- One spacing of the sweep: where its rows of edge points and of centres begin, what a row adds, and that after the last row the
 -- next rank is reached.
-use Rattle.std.proofs.Common.{◌≡◌, ℕ, suc, ◌+◌, ◌*◌, ◌%◌, ◌^◌, ◌<◌, ◌≤◌, List, ℤ, sym, refl, ap, ◌∙◌, inl, mul-le-mul_left, mul-zero, mul-one, mul-suc, arith, pow_pos}
+use Rattle.std.proofs.Common.{◌≡◌, ℕ, suc, ◌+◌, ◌*◌, ◌%◌, ◌^◌, ◌<◌, ◌≤◌, List, sym, refl, ap, ◌∙◌, inl, mul-le-mul_left, mul-zero, mul-one, mul-suc, arith, pow_pos}
 use native.Mathlib.Decide.{dec_lt}
 use Rattle.grid.specs.Grid.{side, at, Inside}
-use Rattle.grid.specs.declared.Grid.{Grid}
 use Rattle.grid.specs.Points.{level, units, rank, odd, centre_bit}
 use Rattle.grid.specs.declared.points.Point.{Point}
 use Rattle.grid.specs.declared.points.Kind.{Kind}
@@ -12,7 +11,7 @@ use Rattle.grid.proofs.Around.{Way, row, column, rise}
 use Rattle.grid.proofs.Parity.{odd_true, even_false}
 use Rattle.grid.proofs.Placed.{Placed, measured, lattice}
 use Rattle.grid.specs.Inner.{Sited, Power, next_kind}
-use Rattle.selection.specs.Inner.{Ready, Final, Swept, edge_rank, centre_rank}
+use Rattle.selection.specs.Inner.{Spacing, Final, Swept, edge_rank, centre_rank}
 use Rattle.selection.proofs.Final.{final_at}
 use Rattle.selection.proofs.Swept.{passed, skipped}
 use Rattle.grid.proofs.Powers.{two_on, reaches, stands}
@@ -25,14 +24,15 @@ pub record Start (m s r b : ℕ) (p : Point) (k : Kind) : Type 0 where
   pub ranked : rank m p ≡ r
   pub up : (units m p).up ≡ b
 
-module _ {m s r b : ℕ} {p : Point} {k : Kind} (start : Start m s r b p k) {f : Point → ℕ} {marks : List ℕ} where
-  -- what the row asks and what it gives
-  pub gives : Final m f (Swept m (rank m p) (suc (units m p).up) 0) marks → Final m f (Swept m r (suc b) 0) marks
-  gives final = rw (start.ranked, start.up) at final
+-- what the row gives
+pub gives : {m s r b : ℕ} {p : Point} {k : Kind} → Start m s r b p k → {f : Point → ℕ} {marks : List ℕ} →
+    Final m f (Swept m (rank m p) (suc (units m p).up)) marks → Final m f (Swept m r (suc b)) marks
+gives start final = rw (start.ranked, start.up) at final
 
-  pub row_asks : {K : Type 0} {g : Grid} {limit : ℕ} {survey heights : List ℤ} → Ready g limit survey heights → K → Final m f (Swept m r b 0) marks →
-      Ready g limit survey heights × Sited m p k s × K × ((units m p).across ≤ 1) × Final m f (Swept m (rank m p) (units m p).up 0) marks
-  row_asks ready kinded final = (ready, start.sited, kinded, start.first, rw (start.ranked, start.up) final)
+-- and what it asks
+pub asks : {m s r b : ℕ} {p : Point} {k : Kind} → Start m s r b p k → {f : Point → ℕ} {marks : List ℕ} →
+    Final m f (Swept m r b) marks → Final m f (Swept m (rank m p) (units m p).up) marks
+asks start final = rw (start.ranked, start.up) final
 
 -- the edge points of a spacing: every row below this one is final
 pub record EdgeRows (m s : ℕ) (f : Point → ℕ) (marks : List ℕ) (y : ℕ) : Type 0 where
@@ -40,7 +40,7 @@ pub record EdgeRows (m s : ℕ) (f : Point → ℕ) (marks : List ℕ) (y : ℕ)
   pub times : y ≡ s * row
   pub even : row % 2 ≡ 0
   pub inside : y ≤ side m
-  pub final : Final m f (Swept m (edge_rank m s) row 0) marks
+  pub final : Final m f (Swept m (edge_rank m s) row) marks
 
 -- the centres of a spacing: every row below this one is final, and this one begins with that kind
 pub record CentreRows (m s : ℕ) (f : Point → ℕ) (marks : List ℕ) (y : ℕ) (k : Kind) : Type 0 where
@@ -48,7 +48,11 @@ pub record CentreRows (m s : ℕ) (f : Point → ℕ) (marks : List ℕ) (y : �
   pub times : y ≡ s * row
   pub odd : row % 2 ≡ 1
   pub way : Way 1 row k
-  pub final : Final m f (Swept m (centre_rank m s) row 0) marks
+  pub final : Final m f (Swept m (centre_rank m s) row) marks
+
+-- s is a power of two below N, and its own level is the exponent
+pub power : {m s : ℕ} → Spacing m s → Power m s
+power {m} {s} w = record { exponent = level m s s; power = w.power; below = w.below }
 
 module _ {m s : ℕ} (w : Power m s) where
   -- its first centre
@@ -57,6 +61,9 @@ module _ {m s : ℕ} (w : Power m s) where
 
   pub levelled : level m s s ≡ w.exponent
   levelled = (measured middle).levelled
+
+  pub spacing : Spacing m s
+  spacing = record { power = rw levelled w.power; below = rw levelled w.below }
 
   -- the square is an even number of spacings wide
   pub half : ℕ
@@ -107,7 +114,7 @@ module _ {m s : ℕ} (w : Power m s) where
 
   -- from a rank's last row to the next rank
   next_rank : {a b c r : ℕ} {q : Point} {f : Point → ℕ} {marks : List ℕ} → Placed m w.exponent a b q → rank m q ≡ r → side m < s * c →
-      Final m f (Swept m r c 0) marks → Final m f (Swept m (suc r) 0 0) marks
+      Final m f (Swept m r c) marks → Final m f (Swept m (suc r) 0) marks
   next_rank {c = c} g e l final =
       let far : side m < 2 ^ w.exponent * c = rw w.power at l in
       rw e at (final_at (rw (← e) at final) (passed g c far))
@@ -132,7 +139,7 @@ module _ {m s : ℕ} (w : Power m s) where
     edge_north l =
         north_start (omega (arith, here.even)) (omega (arith, here.times, mul-suc s here.row)) (edge_room l).0
 
-    pub edge_on : {after : List ℕ} → y < side m → Final m f (Swept m (edge_rank m s) (suc (suc here.row)) 0) after →
+    pub edge_on : {after : List ℕ} → y < side m → Final m f (Swept m (edge_rank m s) (suc (suc here.row))) after →
         EdgeRows m s f after (y + 2 * s)
     edge_on l final =
         record {
@@ -143,25 +150,32 @@ module _ {m s : ℕ} (w : Power m s) where
           final = final;
         }
 
-    pub edge_last : {after : List ℕ} → side m ≤ y → Final m f (Swept m (edge_rank m s) (suc here.row) 0) after →
-        Final m f (Swept m (centre_rank m s) 0 0) after
-    edge_last l final = next_rank first edge_rank_lem (omega (arith, here.times, mul-suc s here.row, positive)) final
-      where
-        first : Placed m w.exponent 1 0 (at s 0)
-        first = stands w (sym (mul-one s)) (sym (mul-zero s)) (record { east = reaches w; north = omega arith }) (inl refl)
+    -- the last row lies at the square's border
+    pub edges_end : side m ≤ y → EdgeRows m s f marks (side m)
+    edges_end l = let e : y ≡ side m = omega (arith, here.inside) in rw e at here
 
-        positive : 0 < s
-        positive = rw w.power (pow_pos w.exponent)
+  pub last_row : Start m s (edge_rank m s) (2 * half) (at s (side m)) EastWest
+  last_row = east_start (omega arith) wide (omega arith)
 
-  pub edges_begin : {f : Point → ℕ} {marks : List ℕ} → Final m f (Swept m (edge_rank m s) 0 0) marks → EdgeRows m s f marks 0
+  pub edges_done : {f : Point → ℕ} {marks : List ℕ} → Final m f (Swept m (edge_rank m s) (suc (2 * half))) marks →
+      Final m f (Swept m (centre_rank m s) 0) marks
+  edges_done final = next_rank first edge_rank_lem (omega (arith, wide, mul-suc s (2 * half), positive)) final
+    where
+      first : Placed m w.exponent 1 0 (at s 0)
+      first = stands w (sym (mul-one s)) (sym (mul-zero s)) (record { east = reaches w; north = omega arith }) (inl refl)
+
+      positive : 0 < s
+      positive = rw w.power (pow_pos w.exponent)
+
+  pub edges_begin : {f : Point → ℕ} {marks : List ℕ} → Final m f (Swept m (edge_rank m s) 0) marks → EdgeRows m s f marks 0
   edges_begin final = record { row = 0; times = sym (mul-zero s); even = refl; inside = omega arith; final = final }
 
   -- there is no centre in an even row
-  no_centre : {f : Point → ℕ} {marks : List ℕ} (c : ℕ) → c % 2 ≡ 0 → Final m f (Swept m (centre_rank m s) c 0) marks →
-      Final m f (Swept m (centre_rank m s) (suc c) 0) marks
+  no_centre : {f : Point → ℕ} {marks : List ℕ} (c : ℕ) → c % 2 ≡ 0 → Final m f (Swept m (centre_rank m s) c) marks →
+      Final m f (Swept m (centre_rank m s) (suc c)) marks
   no_centre c e final = rw centre_rank_lem at (final_at (rw (← centre_rank_lem) at final) (skipped middle refl refl c e))
 
-  pub centres_begin : {f : Point → ℕ} {marks : List ℕ} → Final m f (Swept m (centre_rank m s) 0 0) marks → CentreRows m s f marks s Rising
+  pub centres_begin : {f : Point → ℕ} {marks : List ℕ} → Final m f (Swept m (centre_rank m s) 0) marks → CentreRows m s f marks s Rising
   centres_begin final =
       record {
         row = 1;
@@ -190,7 +204,7 @@ module _ {m s : ℕ} (w : Power m s) where
     pub centre_here : y < side m → Start m s (centre_rank m s) here.row (at s y) k
     centre_here l = centre_start here.odd here.way here.times (omega arith)
 
-    pub centre_on : {after : List ℕ} → Final m f (Swept m (centre_rank m s) (suc here.row) 0) after →
+    pub centre_on : {after : List ℕ} → Final m f (Swept m (centre_rank m s) (suc here.row)) after →
         CentreRows m s f after (y + 2 * s) (next_kind k)
     centre_on final =
         record {
@@ -201,5 +215,5 @@ module _ {m s : ℕ} (w : Power m s) where
           final = no_centre (suc here.row) (omega (arith, here.odd)) final;
         }
 
-    pub centre_last : side m ≤ y → Final m f (Swept m (suc (centre_rank m s)) 0 0) marks
+    pub centre_last : side m ≤ y → Final m f (Swept m (suc (centre_rank m s)) 0) marks
     centre_last l = next_rank middle centre_rank_lem (beyond here.row here.times here.odd l) here.final

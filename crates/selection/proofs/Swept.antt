@@ -1,6 +1,5 @@
--- How a sweep goes on: in a row from one point of a rank to the next but one column, from a row to the next, from a rank to the
--- next. In between there is no point of that rank: it would have other parities.
-use Rattle.std.proofs.Common.{◌≡◌, ℕ, suc, ◌+◌, ◌*◌, ◌%◌, ◌^◌, ◌<◌, ◌≤◌, Bool, true, false, ◌⊎◌, sym, refl, ap, ◌∙◌, inl, inr, mul-le-mul_left, arith}
+-- How a sweep goes on: from a row to the next, from a rank to the next. In between there is no point of that rank: it would have other parities.
+use Rattle.std.proofs.Common.{◌≡◌, ℕ, suc, ◌+◌, ◌*◌, ◌%◌, ◌^◌, ◌<◌, ◌≤◌, Bool, true, false, sym, refl, ap, ◌∙◌, mul-le-mul_left, arith}
 use native.Mathlib.Decide.{ℕ_discrete, dec_lt}
 use Rattle.grid.specs.Grid.{side, Inside}
 use Rattle.grid.specs.Points.{is_corner, units, rank}
@@ -8,7 +7,7 @@ use Rattle.grid.specs.declared.points.Point.{Point}
 use Rattle.grid.proofs.Units.{Times, Odd, Form, edge, centre, form, rank_edge, rank_centre, corner_rank}
 use Rattle.grid.proofs.Placed.{Placed, placed, measured, inner}
 use Rattle.grid.proofs.Around.{same_point}
-use Rattle.selection.specs.Inner.{Swept, corner, finer, row, column}
+use Rattle.selection.specs.Inner.{Swept, corner, finer, row}
 
 -- two points of one rank: one level, and units of one parity
 pub record Ranked (i a b j c d : ℕ) : Type 0 where
@@ -61,43 +60,13 @@ module _ {m j a b : ℕ} {q : Point} (g : Placed m j a b q) where
           let far : 2 ^ j * c ≤ 2 ^ j * (units m p).across = mul-le-mul_left (2 ^ j) (omega arith) in
           absurd (omega (arith, h.east))
 
-  -- past a point: it is one more, and two columns on nothing else is
-  pub past : (p : Point) → Inside m p → Swept m (rank m q) b (a + 2) p → (p ≡ q) ⊎ Swept m (rank m q) b a p
-  past p h (corner e) = inr (corner e)
-  past p h (finer l) = inr (finer l)
-  past p h (row e l) = inr (row e l)
-  past p h (column e u l) = by (dec_lt (units m p).across a)
-    where
-      by : Dec ((units m p).across < a) → (p ≡ q) ⊎ Swept m (rank m q) b a p
-      by (yes k) = inr (column e u k)
-      by (no k) = inl (same_there p h e u (omega (arith, (alike p h e).sum)))
-
-  -- a row begins in column 0 or 1, with nothing before it
-  pub begun : a ≤ 1 → (p : Point) → Inside m p → Swept m (rank m q) b a p → Swept m (rank m q) b 0 p
-  begun l p h (corner e) = corner e
-  begun l p h (finer k) = finer k
-  begun l p h (row e k) = row e k
-  begun l p h (column e u k) = absurd (omega (arith, (alike p h e).sum))
-
-  -- a row ends beyond the square
-  pub ended : (c : ℕ) → side m < 2 ^ j * c → (p : Point) → Inside m p → Swept m (rank m q) (suc b) 0 p → Swept m (rank m q) b c p
-  ended c l p h (corner e) = corner e
-  ended c l p h (finer k) = finer k
-  ended c l p h (column e u k) = absurd (omega arith)
-  ended c l p h (row e k) = by (ℕ_discrete (units m p).up b)
-    where
-      by : Dec ((units m p).up ≡ b) → Swept m (rank m q) b c p
-      by (no n) = row e (omega arith)
-      by (yes u) = column e u (column_inside c l p h e)
-
-  -- and the last row of a rank at the square's border or beyond
-  pub passed : (c : ℕ) → side m < 2 ^ j * c → (p : Point) → Inside m p → Swept m (suc (rank m q)) 0 0 p → Swept m (rank m q) c 0 p
+  -- the last row of a rank lies at the square's border or beyond
+  pub passed : (c : ℕ) → side m < 2 ^ j * c → (p : Point) → Inside m p → Swept m (suc (rank m q)) 0 p → Swept m (rank m q) c p
   passed c l p h (corner e) = corner e
   passed c l p h (row e k) = absurd (omega arith)
-  passed c l p h (column e u k) = absurd (omega arith)
   passed c l p h (finer k) = by (ℕ_discrete (rank m p) (rank m q))
     where
-      by : Dec (rank m p ≡ rank m q) → Swept m (rank m q) c 0 p
+      by : Dec (rank m p ≡ rank m q) → Swept m (rank m q) c p
       by (no n) = finer (omega arith)
       by (yes e) =
           let t = (alike p h e).times.north in
@@ -110,12 +79,11 @@ module _ {m j a b : ℕ} {q : Point} (g : Placed m j a b q) where
 
   -- no centre lies in a row that is even
   pub skipped : a % 2 ≡ 1 → b % 2 ≡ 1 → (c : ℕ) → c % 2 ≡ 0 → (p : Point) → Inside m p →
-      Swept m (rank m q) (suc c) 0 p → Swept m (rank m q) c 0 p
+      Swept m (rank m q) (suc c) p → Swept m (rank m q) c p
   skipped oa ob c ec p h (corner e) = corner e
   skipped oa ob c ec p h (finer k) = finer k
-  skipped oa ob c ec p h (column e u k) = absurd (omega arith)
   skipped oa ob c ec p h (row e k) = by (form _ _ (alike p h e).odd)
     where
-      by : Form (units m p).across (units m p).up → Swept m (rank m q) c 0 p
+      by : Form (units m p).across (units m p).up → Swept m (rank m q) c p
       by (edge o) = absurd (omega (arith, (alike p h e).sum))
       by (centre ou ov) = row e (omega arith)

@@ -4,3 +4,4 @@ pub mod Marks
 pub mod Selected
 pub mod Rule
 pub mod Inner
+pub mod Sweep

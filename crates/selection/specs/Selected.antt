@@ -1,9 +1,8 @@
 -- Selection as a whole: its refusals, in their order, its answer, and what it writes. Document 01, "Points, ends and
 -- dependencies", "Marks", "What a call may turn down". Definitions only.
-use Rattle.std.specs.Prelude.{◌≡◌, ℕ, Bool, cond, not, ◌&&◌, List, [], ◌∷◌, length, ℤ, ◌==◌, nat_lt}
-use Rattle.grid.specs.Grid.{largest, side, samples, at, is_void}
+use Rattle.std.specs.Prelude.{◌≡◌, ℕ, Bool, cond, not, ◌&&◌, List, length, ℤ, ◌==◌, nat_lt}
+use Rattle.grid.specs.Grid.{largest, samples, corners, is_void}
 use Rattle.grid.specs.Refusal.{accepted, size_above, wrong_length, void_corner, tolerance_above}
-use Rattle.grid.specs.declared.points.Point.{Point}
 use Rattle.survey.specs.Filled.{sample, filled}
 use Rattle.survey.specs.Rule.{Sixteen}
 use Rattle.selection.specs.Error.{over}
@@ -14,10 +13,6 @@ use Rattle.selection.specs.declared.Selected.{Selected}
 -- the largest tolerance taken
 abbrev pub highest_tolerance : ℕ
 highest_tolerance = 65535
-
--- the four grid corners
-abbrev pub corners : ℕ → List Point
-corners m = at 0 0 ∷ at (side m) 0 ∷ at 0 (side m) ∷ at (side m) (side m) ∷ []
 
 -- a grid corner is void
 unfoldable pub corner_void : ℕ → List ℤ → Bool
@@ -52,6 +47,10 @@ refusal h =
 abbrev pub marks_by : Handed → List ℕ
 marks_by h = marks_of h.m h.survey (over h.m h.survey h.tolerance)
 
+-- refused: the number, and counts of 0
+abbrev pub turned_down : ℕ → Selected
+turned_down n = record { refusal = n; own = 0; dependent = 0; voids = 0 }
+
 -- accepted: the counts of the points marked 1, of those marked 2 or 6, and of the voids; refused: the number, and counts of 0
 unfoldable pub answer_of : Handed → Selected
 answer_of h =
@@ -62,7 +61,7 @@ answer_of h =
       dependent = count marked_dependence (marks_by h);
       voids = count is_void h.survey;
     })
-    (record { refusal = refusal h; own = 0; dependent = 0; voids = 0 })
+    (turned_down (refusal h))
 
 -- accepted: one mark for each sample, and the filled heights; refused: the buffers stay untouched
 unfoldable pub marks_after : Handed → List ℕ

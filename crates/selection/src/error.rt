@@ -14,7 +14,7 @@ pub(crate) fn exceeds(limit: u32, h: i16, a: i16, b: i16) -> bool
     requires { limit ≤ farthest }
     ensures { result ≡ nat_lt limit (doubled_error h a b) }
 {
-    let error = 2 * (h as i32) - ((a as i32) + (b as i32));
+    let error = 2 * i32::from(h) - (i32::from(a) + i32::from(b));
     let raised = (error + (FARTHEST as i32)) as u32;
     let together = wrapping_sub_u32(raised, FARTHEST - limit);
     2 * limit < together

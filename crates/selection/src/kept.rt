@@ -1,79 +1,69 @@
 // Whether the marks of a point's dependents keep one of them.
-ghost use Rattle.std.specs.Prelude.{◌≡◌, ◌≤◌, false, length};
-ghost use Rattle.grid.specs.Grid.{Sound, Inside, samples, side, widest, at};
-ghost use Rattle.grid.specs.Points.{near, in_line, crossing, crossed, beside};
-ghost use Rattle.grid.specs.Inner.{Clear};
+ghost use Rattle.std.specs.Prelude.{◌≡◌, ◌≤◌, false};
+ghost use Rattle.grid.specs.Grid.{Inside, side, widest};
+ghost use Rattle.grid.specs.Points.{near, in_line, crossing, crossed, beside, dependents};
+ghost use Rattle.grid.specs.Inner.{Clear, Sited};
 ghost use Rattle.selection.specs.Kept.{some};
 ghost use Rattle.selection.specs.Inner.{kept_at};
 
-use grid::Grid;
-use grid::marks::keeps;
-use grid::points::Point;
+use grid::marks::{Marks, keeps};
+use grid::points::{Kind, Point};
 
-fn kept_at(g: Grid, x: u32, y: u32, marks: &[u8]) -> bool
-    requires { Sound g × Inside g.m (at x y) × (length marks.now ≡ samples g.m) }
-    ensures { result ≡ kept_at g.m marks.now (at x y) }
+// Marks, spacing and point are handed on one by one: each look is at another point, so a struct of the three would be made anew for each. That
+// the point is inside ties it to these marks, and that the spacing is small bounds the sum: they stay a `requires`.
+fn kept_at(marks: &Marks, p: Point) -> bool
+    requires { Inside marks.now.grid.m p }
+    ensures { result ≡ kept_at marks.now.grid.m marks.now.bytes.now p }
 {
-    let at = g.place(Point { x, y });
-    keeps(marks[at])
+    keeps(marks.at(p))
 }
 
-// Of the points in row y that lie s before and s after x, those inside: is one kept?
-fn kept_in_line(g: Grid, s: u32, x: u32, y: u32, marks: &[u8]) -> bool
-    requires { Sound g × Inside g.m (at x y) × (length marks.now ≡ samples g.m) × (s ≤ widest) }
-    ensures { result ≡ some (kept_at g.m marks.now) (in_line false y (near (side g.m) s x)) }
+// Of the points in the row of p that lie s before and s after it, those inside: is one kept?
+fn kept_in_line(marks: &Marks, s: u32, p: Point) -> bool
+    requires { Inside marks.now.grid.m p × (s ≤ widest) }
+    ensures { result ≡ some (kept_at marks.now.grid.m marks.now.bytes.now) (in_line false p.y (near (side marks.now.grid.m) s p.x)) }
 {
-    if s <= x {
-        if kept_at(g, x - s, y, marks) {
-            return true;
-        }
-    }
-    if x + s <= g.side {
-        return kept_at(g, x + s, y, marks);
-    }
-    false
+    (s <= p.x && kept_at(marks, Point { x: p.x - s, ..p }))
+        || (p.x + s <= marks.grid.side && kept_at(marks, Point { x: p.x + s, ..p }))
 }
 
 // Of the points s away both ways, those inside: is one kept?
-fn kept_crossing(g: Grid, s: u32, x: u32, y: u32, marks: &[u8]) -> bool
-    requires { Sound g × Inside g.m (at x y) × (length marks.now ≡ samples g.m) × (s ≤ widest) }
-    ensures { result ≡ some (kept_at g.m marks.now) (crossing (side g.m) s x y) }
+fn kept_crossing(marks: &Marks, s: u32, p: Point) -> bool
+    requires { Inside marks.now.grid.m p × (s ≤ widest) }
+    ensures { result ≡ some (kept_at marks.now.grid.m marks.now.bytes.now) (crossing (side marks.now.grid.m) s p.x p.y) }
 {
-    if s <= y {
-        if kept_in_line(g, s, x, y - s, marks) {
-            return true;
-        }
-    }
-    if y + s <= g.side {
-        return kept_in_line(g, s, x, y + s, marks);
-    }
-    false
+    (s <= p.y && kept_in_line(marks, s, Point { y: p.y - s, ..p }))
+        || (p.y + s <= marks.grid.side && kept_in_line(marks, s, Point { y: p.y + s, ..p }))
 }
 
 // Of an edge point's dependents.
-pub(crate) fn kept_crossed(g: Grid, s: u32, x: u32, y: u32, marks: &[u8]) -> bool
-    requires { Sound g × Inside g.m (at x y) × (length marks.now ≡ samples g.m) × (s ≤ widest) }
-    ensures { result ≡ some (kept_at g.m marks.now) (crossed (side g.m) s x y) }
+fn kept_crossed(marks: &Marks, s: u32, p: Point) -> bool
+    requires { Inside marks.now.grid.m p × (s ≤ widest) }
+    ensures { result ≡ some (kept_at marks.now.grid.m marks.now.bytes.now) (crossed (side marks.now.grid.m) s p.x p.y) }
 {
-    if s == 1 {
-        return false;
-    }
-    kept_crossing(g, s / 2, x, y, marks)
+    s != 1 && kept_crossing(marks, s / 2, p)
 }
 
 // Of a centre's dependents.
-pub(crate) fn kept_beside(g: Grid, s: u32, x: u32, y: u32, marks: &[u8]) -> bool
-    requires { Sound g × Clear g.m s x y × (length marks.now ≡ samples g.m) }
-    ensures { result ≡ some (kept_at g.m marks.now) (beside s x y) }
+fn kept_beside(marks: &Marks, s: u32, p: Point) -> bool
+    requires { Clear marks.now.grid.m s p.x p.y }
+    ensures { result ≡ some (kept_at marks.now.grid.m marks.now.bytes.now) (beside s p.x p.y) }
 {
-    if kept_at(g, x, y - s, marks) {
-        return true;
+    kept_at(marks, Point { y: p.y - s, ..p })
+        || kept_at(marks, Point { x: p.x - s, ..p })
+        || kept_at(marks, Point { x: p.x + s, ..p })
+        || kept_at(marks, Point { y: p.y + s, ..p })
+}
+
+// Of the dependents of a point of this kind and this spacing. Inlined, so that a run of edge points and one of centres each ask for theirs.
+#[inline(always)]
+pub(crate) fn kept_dependent(marks: &Marks, kind: Kind, s: u32, p: Point) -> bool
+    requires { Sited marks.now.grid.m p kind s }
+    ensures { result ≡ some (kept_at marks.now.grid.m marks.now.bytes.now) (dependents marks.now.grid.m p) }
+{
+    match kind {
+        Kind::Corner => false,
+        Kind::EastWest | Kind::NorthSouth => kept_crossed(marks, s, p),
+        Kind::Rising | Kind::Falling => kept_beside(marks, s, p),
     }
-    if kept_at(g, x - s, y, marks) {
-        return true;
-    }
-    if kept_at(g, x + s, y, marks) {
-        return true;
-    }
-    kept_at(g, x, y + s, marks)
 }

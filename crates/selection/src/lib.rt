@@ -4,17 +4,21 @@
 mod error;
 mod kept;
 mod marks;
+mod sweep;
 
 ghost use Rattle.std.specs.Prelude.{◌≡◌, ◌&&◌, length, ◌==◌};
-ghost use Rattle.grid.specs.Grid.{Sound, Inside, samples, at, is_void};
+ghost use Rattle.grid.specs.Grid.{Inside, samples, is_void};
 ghost use Rattle.survey.specs.Filled.{sample};
-ghost use Rattle.selection.specs.Selected.{corner_void, handed, refusal, AnswersSelect};
+ghost use Rattle.selection.specs.Selected.{corner_void, handed, AnswersSelect};
+ghost use Rattle.selection.specs.Inner.{Judged};
 
 use grid::Grid;
 use grid::points::Point;
 use grid::refusals::Refusal;
+use grid::sizes::{grid_of, size_of};
 use marks::{count, mark_all};
 
+// C gets this struct as it stands: the refusal stays a number, 0 for none, with the counts beside it.
 #[repr(C)]
 #[derive(Clone, Copy)]
 pub struct Selected {
@@ -24,64 +28,68 @@ pub struct Selected {
     pub voids: u32,
 }
 
+impl From<Refusal> for Selected {
+    ghost use Rattle.grid.specs.Refusal.{number};
+    ghost use Rattle.selection.specs.Selected.{turned_down};
+
+    ghost from_gives = { λ refusal r. r ≡ turned_down (number refusal) };
+
+    fn from(refusal: Refusal) -> Selected {
+        Selected {
+            refusal: u32::from(refusal),
+            own: 0,
+            dependent: 0,
+            voids: 0,
+        }
+    }
+}
+
 // The largest tolerance.
 const HIGHEST_TOLERANCE: u32 = 65535;
 
-fn void_at(g: Grid, x: u32, y: u32, survey: &[i16]) -> bool
-    requires { Sound g × Inside g.m (at x y) × (length survey.now ≡ samples g.m) }
-    ensures { result ≡ is_void (sample g.m survey.now (at x y)) }
+// The two facts stay a `requires`: only the four looks at the grid corners ask for them, before the call is accepted.
+fn void_at(g: Grid, p: Point, survey: &[i16]) -> bool
+    requires { Inside g.m p × (length survey.now ≡ samples g.m) }
+    ensures { result ≡ is_void (sample g.m survey.now p) }
 {
-    let at = g.place(Point { x, y });
-    Grid::is_void(survey[at])
+    Grid::is_void(survey[g.place(p)])
 }
 
 fn corner_void(g: Grid, survey: &[i16]) -> bool
-    requires { Sound g × (length survey.now ≡ samples g.m) }
+    requires { length survey.now ≡ samples g.m }
     ensures { result ≡ corner_void g.m survey.now }
 {
-    let n = g.side;
-    if void_at(g, 0, 0, survey) {
-        return true;
-    }
-    if void_at(g, n, 0, survey) {
-        return true;
-    }
-    if void_at(g, 0, n, survey) {
-        return true;
-    }
-    void_at(g, n, n, survey)
+    g.corners().iter().any(|p| void_at(g, *p, survey))
 }
 
 fn right_lengths(samples: usize, survey: &[i16], marks: &[u8], heights: &[i16]) -> bool
     ensures { result ≡ (length survey.now == samples && (length marks.now == samples && length heights.now == samples)) }
 {
-    if survey.len() != samples {
-        return false;
-    }
-    if marks.len() != samples {
-        return false;
-    }
-    heights.len() == samples
+    survey.len() == samples && marks.len() == samples && heights.len() == samples
 }
 
-fn refusal_of(survey: &[i16], m: u32, tolerance: u32, marks: &[u8], heights: &[i16]) -> u32
-    ensures { result ≡ refusal (handed survey.now m tolerance marks.now heights.now) }
+// The grid to be thinned, or the first case that turns the call down.
+fn grid_to_thin(
+    survey: &[i16],
+    m: u32,
+    tolerance: u32,
+    marks: &[u8],
+    heights: &[i16],
+) -> Result<Grid, Refusal>
+    ensures { Judged (handed survey.now m tolerance marks.now heights.now) result }
 {
-    let answer = grid::sizes::size_of(m);
-    if answer.refusal != Refusal::ACCEPTED {
-        return answer.refusal;
+    let size = size_of(m)?;
+    if !right_lengths(size.samples as usize, survey, marks, heights) {
+        return Err(Refusal::WrongLength);
     }
-    let size = answer.size;
-    if right_lengths(size.samples as usize, survey, marks, heights) {
-        if HIGHEST_TOLERANCE < tolerance {
-            return Refusal::TOLERANCE_ABOVE;
-        }
-        if corner_void(grid::sizes::grid_of(m), survey) {
-            return Refusal::VOID_CORNER;
-        }
-        return Refusal::ACCEPTED;
+    if HIGHEST_TOLERANCE < tolerance {
+        return Err(Refusal::ToleranceAbove);
     }
-    Refusal::WRONG_LENGTH
+    let g = grid_of(m);
+    if corner_void(g, survey) {
+        return Err(Refusal::VoidCorner);
+    }
+    Ok(g)
 }
 
 pub fn select(
@@ -93,17 +101,12 @@ pub fn select(
 ) -> Selected
     ensures { AnswersSelect (handed survey.now m tolerance marks.old heights.old) result marks.new heights.new }
 {
-    let refusal = refusal_of(survey, m, tolerance, marks, heights);
-    if refusal != Refusal::ACCEPTED {
-        return Selected {
-            refusal,
-            own: 0,
-            dependent: 0,
-            voids: 0,
-        };
+    match grid_to_thin(survey, m, tolerance, marks, heights) {
+        Err(refusal) => Selected::from(refusal),
+        Ok(grid) => {
+            survey::fill(survey, grid, heights);
+            mark_all(grid, 2 * tolerance, survey, heights, marks);
+            count(marks)
+        }
     }
-    let g = grid::sizes::grid_of(m);
-    survey::fill(survey, g, heights);
-    mark_all(g, 2 * tolerance, survey, heights, marks);
-    count(marks)
 }

@@ -4,16 +4,22 @@ use mathlib.Core.Path.{◌≡◌, sym, ◌∙◌}
 use mathlib.Core.Bool.{Bool}
 use Prim.Native.Nat.{ℕ}
 use lib.IntN.{ℤ}
+use Rattle.std.specs.Prelude.{⊤, Result, List}
 use Rattle.grid.specs.declared.Grid.{Grid}
+use Rattle.grid.proofs.Alike.{same_grid}
 use Rattle.grid.specs.declared.points.Point.{Point}
-use Rattle.grid.specs.declared.sizes.SizeAnswer.{SizeAnswer}
+use Rattle.grid.specs.declared.sizes.Size.{Size}
+use Rattle.grid.specs.declared.refusals.Refusal.{Refusal}
 use Rattle.grid.proofs.sizes.size_of.Reads as size_of
 use Rattle.selection.specs.declared.Selected.{Selected}
 use Rattle.selection.proofs.select.Reads as select
+use Rattle.selection.proofs.SelectedFromRefusal.from.Reads as selected
 use Rattle.mesh.specs.declared.Meshed.{Meshed}
 use Rattle.mesh.proofs.triangles.Reads as triangles
+use Rattle.mesh.proofs.MeshedFromRefusal.from.Reads as meshed
 use Rattle.strip.specs.declared.Stripped.{Stripped}
 use Rattle.strip.proofs.strip.Reads as strip
+use Rattle.strip.proofs.StrippedFromRefusal.from.Reads as stripped
 use Rattle.aim.specs.declared.HeightAnswer.{HeightAnswer}
 use Rattle.aim.specs.declared.PlaneAnswer.{PlaneAnswer}
 use Rattle.aim.proofs.height.Reads as height
@@ -33,10 +39,13 @@ use Rattle.grid.proofs.Grid.place.Reads as place
 use Rattle.grid.proofs.Grid.point.Reads as point
 use Rattle.grid.proofs.Grid.midpoint.Reads as midpoint
 use Rattle.grid.proofs.Grid.in_quarters.Reads as in_quarters
+use Rattle.grid.proofs.Grid.corners.Reads as corners
 use Rattle.grid.proofs.Grid.is_void.Reads as is_void
 use Rattle.grid.proofs.Grid.raised.Reads as raised
 use Rattle.grid.proofs.Grid.lowered.Reads as lowered
+use Rattle.grid.proofs.marks.Marks.at.Reads as mark_at
 use Rattle.grid.proofs.marks.good.Reads as good
+use Rattle.grid.proofs.refusals.U32FromRefusal.from.Reads as number
 use Rattle.grid.proofs.marks.kept.Reads as kept
 use Rattle.grid.proofs.marks.keeps.Reads as keeps
 use Rattle.grid.proofs.marks.filled.Reads as filled
@@ -66,10 +75,10 @@ height_once k a r r' o o' p q = no_second.height _ r r' p.answer q.answer
 pub plane_once : (k : _) (a : _) (r r' : PlaneAnswer) (o o' : _) → plane.Learnt k a r o → plane.Learnt k a r' o' → r ≡ r'
 plane_once k a r r' o o' p q = no_second.plane _ r r' p.answer q.answer
 
-pub read_once : (k : _) (a : _) (r r' : Frame) (o o' : _) → read.Learnt k a r o → read.Learnt k a r' o' → r ≡ r'
+pub read_once : (k : _) (a : _) (r r' : Result Frame Refusal) (o o' : _) → read.Learnt k a r o → read.Learnt k a r' o' → r ≡ r'
 read_once k a r r' o o' p q = no_second.read _ r r' p q
 
-pub heights_once : (k : _) (a : _) (r r' : ℕ) (o o' : _) → heights.Learnt k a r o → heights.Learnt k a r' o' →
+pub heights_once : (k : _) (a : _) (r r' : Result ⊤ Refusal) (o o' : _) → heights.Learnt k a r o → heights.Learnt k a r' o' →
     SameSurvey r r' o.1.0.now o'.1.0.now
 heights_once k a r r' o o' p q = no_second.heights _ r r' _ _ p q
 
@@ -77,7 +86,7 @@ pub text_of_once : (k : _) (a : _) (r r' : ℕ) (o o' : _) → text_of.Learnt k 
     SameText r r' o.1.0.now o'.1.0.now
 text_of_once k a r r' o o' p q = no_second.text _ _ r r' _ _ p q
 
-pub size_of_once : (k : _) (a : _) (r r' : SizeAnswer) (o o' : _) → size_of.Learnt k a r o → size_of.Learnt k a r' o' → r ≡ r'
+pub size_of_once : (k : _) (a : _) (r r' : Result Size Refusal) (o o' : _) → size_of.Learnt k a r o → size_of.Learnt k a r' o' → r ≡ r'
 size_of_once k a r r' o o' p q = no_second.size a.0 r r' p q
 
 -- C's calls
@@ -107,7 +116,7 @@ pub fill_once : (k : _) (a : _) (r r' : _) (o o' : _) → fill.Learnt k a r o �
 fill_once k a r r' o o' p q = same p.is q.is
 
 pub grid_of_once : (k : _) (a : _) (r r' : Grid) (o o' : _) → grid_of.Learnt k a r o → grid_of.Learnt k a r' o' → r ≡ r'
-grid_of_once k a r r' o o' p q = same p q
+grid_of_once k a r r' o o' p q = same_grid r r' (same p q)
 
 pub place_once : (k : _) (a : _) (r r' : ℕ) (o o' : _) → place.Learnt k a r o → place.Learnt k a r' o' → r ≡ r'
 place_once k a r r' o o' p q = same p q
@@ -120,6 +129,24 @@ midpoint_once k a r r' o o' p q = same p q
 
 pub in_quarters_once : (k : _) (a : _) (r r' : ℕ) (o o' : _) → in_quarters.Learnt k a r o → in_quarters.Learnt k a r' o' → r ≡ r'
 in_quarters_once k a r r' o o' p q = same p q
+
+pub corners_once : (k : _) (a : _) (r r' : List Point) (o o' : _) → corners.Learnt k a r o → corners.Learnt k a r' o' → r ≡ r'
+corners_once k a r r' o o' p q = same p q
+
+pub number_once : (k : _) (a : _) (r r' : ℕ) (o o' : _) → number.Learnt k a r o → number.Learnt k a r' o' → r ≡ r'
+number_once k a r r' o o' p q = same p q
+
+pub selected_once : (k : _) (a : _) (r r' : Selected) (o o' : _) → selected.Learnt k a r o → selected.Learnt k a r' o' → r ≡ r'
+selected_once k a r r' o o' p q = same p q
+
+pub meshed_once : (k : _) (a : _) (r r' : Meshed) (o o' : _) → meshed.Learnt k a r o → meshed.Learnt k a r' o' → r ≡ r'
+meshed_once k a r r' o o' p q = same p q
+
+pub stripped_once : (k : _) (a : _) (r r' : Stripped) (o o' : _) → stripped.Learnt k a r o → stripped.Learnt k a r' o' → r ≡ r'
+stripped_once k a r r' o o' p q = same p q
+
+pub mark_at_once : (k : _) (a : _) (r r' : ℕ) (o o' : _) → mark_at.Learnt k a r o → mark_at.Learnt k a r' o' → r ≡ r'
+mark_at_once k a r r' o o' p q = same p q
 
 pub is_void_once : (k : _) (a : _) (r r' : Bool) (o o' : _) → is_void.Learnt k a r o → is_void.Learnt k a r' o' → r ≡ r'
 is_void_once k a r r' o o' p q = same p q

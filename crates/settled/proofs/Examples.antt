@@ -94,7 +94,7 @@ settled = record {
   ten_triangles = record { answer = refl; places = refl };
   eleven_taken = record { answer = refl; marks = refl; heights = refl };
   eleven_refused = record { answer = refl; marks = refl; heights = refl };
-  eleven_size = refl;
+  eleven_size = (refl, refl);
   eleven_selection = λ survey t marks heights. record { answer = refl; marks = refl; heights = refl };
   eleven_triangles = λ marks places. record { answer = refl; places = refl };
   eleven_strip = λ marks places. record { answer = refl; places = refl };

@@ -2,12 +2,13 @@
 -- the answer and the buffers at exit in numbers; or, of an answered height or plane, what the promise says of it. Examples start from the survey:
 -- triangles, height and plane are handed the very marks and heights that selection writes (but where m is 8, and for example 12's unclosed marks, which
 -- are those with the middle set to 0). `ten_kept` says which points example 10's marks keep. Definitions only.
-use Rattle.std.specs.Prelude.{◌≡◌, Bool, false, cond, not, ◌&&◌, List, [], ◌∷◌, map, ℕ, ◌≤◌, ℤ, pos, neg_ℤ, replicate, set, Float}
+use Rattle.std.specs.Prelude.{◌≡◌, Bool, false, cond, not, ◌&&◌, List, [], ◌∷◌, map, ℕ, ◌≤◌, Err, ℤ, pos, neg_ℤ, replicate, set, Float}
 use Rattle.std.specs.Float.Ieee.{to_bits}
 use Rattle.grid.specs.Grid.{samples, at, is_void}
 use Rattle.grid.specs.Points.{is_corner}
-use Rattle.grid.specs.Refusal.{accepted}
-use Rattle.grid.specs.Sizes.{no_size, size_answer}
+use Rattle.grid.specs.Refusal.{accepted, number}
+use Rattle.grid.specs.Sizes.{size_answer}
+use Rattle.grid.specs.declared.refusals.Refusal.TheVariants.{SizeAbove}
 use Rattle.grid.specs.declared.points.Point.{Point}
 use Rattle.selection.specs.Selected.{Handed as Surveying, handed as surveying, marks_after, heights_after, Selects}
 use Rattle.selection.specs.declared.Selected.{Selected}
@@ -203,7 +204,7 @@ pub record Settled : Type 0 where
       3 ∷ 0 ∷ 3 ∷ [])
       grid_q
   pub eleven_refused : Selects (select 1 65_536 grid_q) (selected 4 0 0 0) (nines 9) (map pos (nines 9))
-  pub eleven_size : record { refusal = 1; size = no_size } ≡ size_answer 8
+  pub eleven_size : (Err SizeAbove ≡ size_answer 8) × (number SizeAbove ≡ 1)
   pub eleven_selection : (survey : List ℤ) (t : ℕ) (marks : List ℕ) (heights : List ℤ) →
       Selects (surveying survey 8 t marks heights) (selected 1 0 0 0) marks heights
   pub eleven_triangles : (marks places : List ℕ) → Meshes (drawing marks 8 places) (meshed 1 0) places

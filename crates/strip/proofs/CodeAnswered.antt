@@ -4,7 +4,7 @@ use mathlib.Core.Path.{◌≡◌, refl, sym, ap, ◌∙◌}
 use mathlib.Core.Bool.{Bool, true, false, cond, not}
 use mathlib.Core.Logic.{◌≢◌}
 use mathlib.Core.List.{List, [], ◌∷◌}
-use Prim.Native.Nat.{ℕ, ◌*◌, ◌≤◌}
+use Prim.Native.Nat.{ℕ, ◌*◌, ◌≤◌, ◌<◌}
 use native.Mathlib.Omega.{arith}
 use lib.Dec.{eqb, ltb}
 use lib.ListN.{length}
@@ -68,21 +68,20 @@ module _ (h : Handed) where
 
   -- the strip is counted, and compared with the room
   module _ (k : Shut h) {needed : ℕ} (all : needed ≡ length ring) where
-    abbrev lacks : Bool
-    lacks = ltb (length h.places) needed
+    long : needed ≡ length (strip h)
+    long = all ∙ ap length (ring_is k)
 
-    refusal_here : {t : Bool} → lacks ≡ t → refusal h ≡ cond t no_room accepted
-    refusal_here e = refusal_room k (sym (ap (λ (n : ℕ). ltb (length h.places) n) (all ∙ ap length (ring_is k))) ∙ e)
-
-    pub answer_short : lacks ≡ true → answering no_room needed ≡ answer_of h
+    pub refused_short : length h.places < needed → Refused h (answering no_room needed)
     unfolding answer_of
-    answer_short e = rw (refusal_here e, all, ring_is k)
+    refused_short l =
+        let e : refusal h ≡ no_room = refusal_room k (lt-ltb (length h.places) (length (strip h)) (omega (arith, long))) in
+        record { some = λ none. omega (arith, e, none); answer = rw (e, long) }
 
-    pub room_found : lacks ≡ false → refusal h ≡ accepted
-    room_found e = refusal_here e
+    pub room_found : needed ≤ length h.places → refusal h ≡ accepted
+    room_found l = refusal_room k (le-ltb (length h.places) (length (strip h)) (omega (arith, long)))
 
   -- there is room for two places for each triangle, which is the most
-  pub room_anyway : Shut h → {triangles : ℕ} → triangles ≡ needed h → ltb (length h.places) (2 * triangles) ≡ false → refusal h ≡ accepted
+  pub room_anyway : Shut h → {triangles : ℕ} → triangles ≡ needed h → 2 * triangles ≤ length h.places → refusal h ≡ accepted
   unfolding strip
   room_anyway k {triangles} e enough =
       refusal_room k
@@ -92,23 +91,12 @@ module _ (h : Handed) where
         placed_long h.m (mesh h.m (kept_of h)),
         number_triangles h.m (kept_of h) k.closed,
         e,
-        ltb-false (length h.places) (2 * triangles) enough,
       )))
 
-  answer_refusal : {r : Stripped} → r ≡ answer_of h → r.refusal ≡ refusal h
+  refused : {n : ℕ} → refusal h ≡ n → n ≢ accepted → n ≢ no_room → Refused h (answering n 0)
   unfolding answer_of
-  answer_refusal e = ap (λ (a : Stripped). a.refusal) e
-
-  -- what is told before anything is written
-  pub refused_all : {r : Stripped} → r ≡ answer_of h → Refused h r
-  refused_all e = record { number = answer_refusal e; answer = λ no. e }
-
-  pub refused_none : refusal h ≡ accepted → Refused h (answering accepted 0)
-  refused_none ok = record { number = sym ok; answer = λ no. absurd (no ok) }
-
-  refused : {n : ℕ} → refusal h ≡ n → n ≢ accepted → n ≢ no_room → answering n 0 ≡ answer_of h
-  unfolding answer_of
-  refused {n} e taken other = rw (e, ne_eqb n accepted taken, ne_eqb n no_room other)
+  refused {n} e taken other =
+      record { some = λ none. taken (sym e ∙ none); answer = rw (e, ne_eqb n accepted taken, ne_eqb n no_room other) }
 
   -- refused, the buffer stays as it was
   pub places_refused : refusal h ≢ accepted → places_after h ≡ h.places
@@ -171,11 +159,11 @@ module _ (h : Handed) where
       by (room s l g k w r) e = record { small = s; long = l; good = g; closed = k }
       by (nothing s l g k w r) e = absurd (omega arith)
 
-  pub turned_down_lem : mesh_refusal asked ≢ no_room → answering (mesh_refusal asked) 0 ≡ answer_of h
+  pub turned_down_lem : mesh_refusal asked ≢ no_room → Refused h (answering (mesh_refusal asked) 0)
   unfolding refusal
   turned_down_lem other = by (turned asked) other
     where
-      by : {n : ℕ} → Turned asked n → n ≢ no_room → answering n 0 ≡ answer_of h
+      by : {n : ℕ} → Turned asked n → n ≢ no_room → Refused h (answering n 0)
       by (size s) other = refused (rw (lt-ltb largest h.m s)) (λ e. omega arith) other
       by (buffer s l) other = refused (rw (le-ltb largest h.m s, ne_eqb (length h.marks) (samples h.m) l)) (λ e. omega arith) other
       by (mark s l g) other =

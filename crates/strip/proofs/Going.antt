@@ -9,9 +9,8 @@ use Prim.Native.Nat.{ℕ, ◌+◌}
 use Rattle.strip.specs.Strip.{Corners, corners, has, other_than, going_on}
 use Rattle.strip.specs.Reading.{turned, reading, Alike, AllAlike, none, more as and}
 use Rattle.strip.specs.Rule.{Third, Goes as GoesOn, last, straight, turn as turning}
-use Rattle.strip.specs.Inner.{runs, taken, laid}
+use Rattle.strip.specs.Inner.{Running, runs, taken, laid}
 use Rattle.strip.specs.declared.ring.Passage.{Passage}
-use Rattle.strip.specs.declared.ring.Running.{Running}
 use Rattle.strip.proofs.Corner.{on_way, off_way}
 use Rattle.strip.proofs.Turns.{turn, differ, Apart, apart}
 use Rattle.strip.proofs.Passing.{nowhere, side, Begun, first, second, third, Entered, Lays, onward, back, ends, Run, one, more}

@@ -14,7 +14,6 @@ pub mod Alike
 pub mod Values
 pub mod Promised
 pub mod CodeLaid
-pub mod CodeTaking
 pub mod CodePassing
 pub mod CodeRing
 pub mod CodeAnswered

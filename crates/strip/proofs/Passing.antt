@@ -4,13 +4,13 @@ use mathlib.Core.Path.{◌≡◌, refl}
 use mathlib.Core.Bool.{Bool, true, false, cond, not}
 use mathlib.Core.List.{List, [], ◌∷◌, ◌++◌}
 use Prim.Native.Nat.{ℕ}
+use Rattle.std.specs.Prelude.{Option, Some, None}
 use Rattle.grid.specs.Points.{odd}
 use Rattle.strip.specs.Strip.{Corners, corners}
-use Rattle.strip.specs.Inner.{passage, runs, step, begun_by, taken}
+use Rattle.strip.specs.Inner.{passage, Running, runs, step, begun_by, taken}
 use Rattle.strip.specs.declared.ring.Side.{Side}
-use Rattle.strip.specs.declared.ring.Side.TheVariants.{Nowhere, Leg, Longest}
+use Rattle.strip.specs.declared.ring.Side.TheVariants.{Leg, Longest}
 use Rattle.strip.specs.declared.ring.Passage.{Passage}
-use Rattle.strip.specs.declared.ring.Running.{Running}
 use Rattle.strip.proofs.Turns.{Turns}
 
 -- A side that the strip crosses, from a corner to another: counter-clockwise around the triangle that it comes into, so clockwise around the one that
@@ -21,10 +21,10 @@ pub data Gate : Type 0 where
   side : ℕ → ℕ → Bool → Gate
 
 -- that at v of a triangle (v, a, w): as the strip comes into (l, a, r) at l, and as it goes out of it at r
-abbrev pub gate : Side → Bool → ℕ → ℕ → ℕ → Gate
-gate Nowhere isodd v a w = nowhere
-gate Leg isodd v a w = side (cond isodd a v) (cond isodd v a) isodd
-gate Longest isodd v a w = side (cond isodd v w) (cond isodd w v) (not isodd)
+abbrev pub gate : Option Side → Bool → ℕ → ℕ → ℕ → Gate
+gate None isodd v a w = nowhere
+gate (Some Leg) isodd v a w = side (cond isodd a v) (cond isodd v a) isodd
+gate (Some Longest) isodd v a w = side (cond isodd v w) (cond isodd w v) (not isodd)
 
 -- a triangle, with one or another of its corners first, is x, y, z
 pub data Begun : ℕ → ℕ → ℕ → Corners → Type 0 where
@@ -61,17 +61,17 @@ pub data Passed (m : ℕ) : Gate → Passage → Corners → Gate → Type 0 whe
       Passed m (side x y b) p t nowhere
 
 -- the sides by which the strip comes in and goes out: never by the longest both times
-pub data Ways : Side → Side → Type 0 where
-  legs : {s : Side} → Ways s Leg
-  over : Ways Leg Longest
-  stops : Ways Leg Nowhere
-  starts : Ways Nowhere Longest
-  closes : Ways Longest Nowhere
+pub data Ways : Option Side → Option Side → Type 0 where
+  legs : {s : Option Side} → Ways s (Some Leg)
+  over : Ways (Some Leg) (Some Longest)
+  stops : Ways (Some Leg) None
+  starts : Ways None (Some Longest)
+  closes : Ways (Some Longest) None
 
-pub by_leg : (s : Side) → Ways Leg s
-by_leg Nowhere = stops
-by_leg Leg = legs
-by_leg Longest = over
+pub by_leg : (s : Option Side) → Ways (Some Leg) s
+by_leg None = stops
+by_leg (Some Leg) = legs
+by_leg (Some Longest) = over
 
 module _ {m : ℕ} (l a r k : ℕ) where
   leg_even : Turning m (corners l a r) → Entered m (corners l a r) l a r
@@ -86,20 +86,20 @@ module _ {m : ℕ} (l a r k : ℕ) where
   longest_odd : Turning m (corners r a l) → Entered m (corners r a l) l r a
   longest_odd c = record { begun = third; turns = c }
 
-  pub passed : {comes goes : Side} → Ways comes goes → (b : Bool) → odd k ≡ b → Turning m (listed b l a r) →
+  pub passed : {comes goes : Option Side} → Ways comes goes → (b : Bool) → odd k ≡ b → Turning m (listed b l a r) →
       Passed m (gate comes b l a r) (passage l a r k comes goes) (listed b l a r) (gate goes b r a l)
-  passed (legs {s = Nowhere}) false e c = begins {p = passage l a r k Nowhere Leg} {b = false} first c (λ s. rw e)
-  passed (legs {s = Nowhere}) true e c = begins {p = passage l a r k Nowhere Leg} {b = true} third c (λ s. rw e)
-  passed (legs {s = Leg}) false e c = onward (leg_even c) (λ i. refl) (λ i. refl)
-  passed (legs {s = Leg}) true e c = back (leg_odd c) (λ i. refl) (λ i. refl)
-  passed (legs {s = Longest}) false e c = back (longest_even c) (λ i. refl) (λ i. refl)
-  passed (legs {s = Longest}) true e c = onward (longest_odd c) (λ i. refl) (λ i. refl)
+  passed (legs {s = None}) false e c = begins {p = passage l a r k None (Some Leg)} {b = false} first c (λ s. rw e)
+  passed (legs {s = None}) true e c = begins {p = passage l a r k None (Some Leg)} {b = true} third c (λ s. rw e)
+  passed (legs {s = (Some Leg)}) false e c = onward (leg_even c) (λ i. refl) (λ i. refl)
+  passed (legs {s = (Some Leg)}) true e c = back (leg_odd c) (λ i. refl) (λ i. refl)
+  passed (legs {s = (Some Longest)}) false e c = back (longest_even c) (λ i. refl) (λ i. refl)
+  passed (legs {s = (Some Longest)}) true e c = onward (longest_odd c) (λ i. refl) (λ i. refl)
   passed over false e c = back (leg_even c) (λ i. refl) (λ i. refl)
   passed over true e c = onward (leg_odd c) (λ i. refl) (λ i. refl)
   passed stops false e c = ends (leg_even c) (λ s. refl)
   passed stops true e c = ends (leg_odd c) (λ s. refl)
-  passed starts false e c = begins {p = passage l a r k Nowhere Longest} {b = true} second c (λ s. rw e)
-  passed starts true e c = begins {p = passage l a r k Nowhere Longest} {b = false} second c (λ s. rw e)
+  passed starts false e c = begins {p = passage l a r k None (Some Longest)} {b = true} second c (λ s. rw e)
+  passed starts true e c = begins {p = passage l a r k None (Some Longest)} {b = false} second c (λ s. rw e)
   passed closes false e c = ends (longest_even c) (λ s. refl)
   passed closes true e c = ends (longest_odd c) (λ s. refl)
 

@@ -9,6 +9,7 @@ use native.Mathlib.Decide.{ℕ_discrete}
 use native.Mathlib.Nat.{add_comm}
 use native.Mathlib.Omega.{arith}
 use lib.ListN.{length}
+use Rattle.std.specs.Prelude.{Option, Some, None}
 use Rattle.grid.specs.Grid.{place, midpoint, midplace, Inside}
 use Rattle.grid.specs.Points.{odd}
 use Rattle.grid.specs.Turn.{CounterClockwise}
@@ -24,7 +25,7 @@ use Rattle.surface.proofs.Restricted.{restricted}
 use Rattle.strip.specs.Strip.{Corners, corners, placed}
 use Rattle.strip.specs.Inner.{passage, across, passages}
 use Rattle.strip.specs.declared.ring.Side.{Side}
-use Rattle.strip.specs.declared.ring.Side.TheVariants.{Nowhere, Leg, Longest}
+use Rattle.strip.specs.declared.ring.Side.TheVariants.{Leg, Longest}
 use Rattle.strip.proofs.Turns.{Turns}
 use Rattle.strip.proofs.Passing.{Gate, gate, Ways, legs, by_leg, passed, Run, one, follow, cast}
 
@@ -48,12 +49,12 @@ midplace_back : (v w : ℕ) → midplace v w ≡ midplace w v
 midplace_back v w = ap (λ (n : ℕ). n / 2) (add_comm v w)
 
 -- in a half a leg of the whole is the longest side, and the longest side is a leg; and it turns the other way
-gate_across : (s : Side) (b : Bool) (v a w : ℕ) → gate s (not b) v w a ≡ gate (across s) b v a w
-gate_across Nowhere b v a w = refl
-gate_across Leg false v a w = refl
-gate_across Leg true v a w = refl
-gate_across Longest false v a w = refl
-gate_across Longest true v a w = refl
+gate_across : (s : Option Side) (b : Bool) (v a w : ℕ) → gate s (not b) v w a ≡ gate (across s) b v a w
+gate_across None b v a w = refl
+gate_across (Some Leg) false v a w = refl
+gate_across (Some Leg) true v a w = refl
+gate_across (Some Longest) false v a w = refl
+gate_across (Some Longest) true v a w = refl
 
 module _ (kept : ℕ → Bool) where
   -- where the side from v toward w ends in an uncut triangle: the longest side of a triangle with k cuts left, and a leg of one
@@ -67,15 +68,15 @@ module _ (kept : ℕ → Bool) where
     leg_end (suc k) v a = long_end k v a
 
   -- the side by which the strip comes in, or goes out, at the corner v of what (v, a, w) leads to
-  abbrev pub gate_at : Side → ℕ → ℕ → ℕ → ℕ → Gate
+  abbrev pub gate_at : Option Side → ℕ → ℕ → ℕ → ℕ → Gate
   gate_at s k v a w = gate s (odd k) v (leg_end k v a) (long_end k v w)
 
   -- of a triangle that is cut, at c, its half has it; of one that is not, and whose leg is not halved either, it is its own
-  gate_cut : (s : Side) (k v a w c : ℕ) → midplace v w ≡ c → kept c ≡ true → gate_at s (suc k) v a w ≡ gate_at (across s) k v c a
+  gate_cut : (s : Option Side) (k v a w c : ℕ) → midplace v w ≡ c → kept c ≡ true → gate_at s (suc k) v a w ≡ gate_at (across s) k v c a
   unfolding long_end leg_end
   gate_cut s k v a w c e keeps = rw (e, keeps, odd_suc k) (gate_across s (odd k) v (leg_end k v c) (long_end k v a))
 
-  gate_whole : (s : Side) (k v a w c : ℕ) → midplace v w ≡ c → kept c ≡ false → long_end k v a ≡ a →
+  gate_whole : (s : Option Side) (k v a w c : ℕ) → midplace v w ≡ c → kept c ≡ false → long_end k v a ≡ a →
       gate_at s (suc k) v a w ≡ gate s (odd (suc k)) v a w
   unfolding long_end leg_end
   gate_whole s k v a w c e out f = rw (e, out, f)
@@ -85,7 +86,7 @@ never {b = true} e f = sym (f refl) ∙ e
 never {b = false} e f = refl
 
 -- a triangle is passed, by itself
-abbrev Alone : ℕ → ℕ → ℕ → Point → Point → Point → Side → Side → Type 0
+abbrev Alone : ℕ → ℕ → ℕ → Point → Point → Point → Option Side → Option Side → Type 0
 Alone m k cuts l a r comes goes =
     Run m (gate comes (odd k) (place m l) (place m a) (place m r)) (passage (place m l) (place m a) (place m r) k comes goes ∷ [])
     (placed m (written cuts l a r ∷ [])) (gate goes (odd k) (place m r) (place m a) (place m l))
@@ -95,7 +96,7 @@ module _ {m : ℕ} where
   turns {p} {q} {w} i j k h = record { does = rw (point_place m p i, point_place m q j, point_place m w k) h }
 
   -- cuts made and cuts left are 2m in all, so both are even or both are odd
-  alone : (k cuts : ℕ) {l a r : Point} {comes goes : Side} → Triangle m k l a r → cuts + k ≡ 2 * m → Ways comes goes →
+  alone : (k cuts : ℕ) {l a r : Point} {comes goes : Option Side} → Triangle m k l a r → cuts + k ≡ 2 * m → Ways comes goes →
       Alone m k cuts l a r comes goes
   alone k cuts {l} {a} {r} {comes} {goes} t all w = by (ℕ_discrete (k % 2) 0)
     where
@@ -116,7 +117,7 @@ module _ {m : ℕ} where
 module _ {m : ℕ} {kept : Point → Bool} (kept' : ℕ → Bool) (agree : (p : Point) → Inside m p → kept' (place m p) ≡ kept p)
     (closed : Closed m (λ p. kept p ≡ true)) where
   -- what a triangle leads to is passed, from its side at l to its side at r
-  abbrev Leads : ℕ → ℕ → Point → Point → Point → Side → Side → Type 0
+  abbrev Leads : ℕ → ℕ → Point → Point → Point → Option Side → Option Side → Type 0
   Leads k cuts l a r comes goes =
       Run m (gate_at kept' comes k (place m l) (place m a) (place m r)) (passages kept' k (place m l) (place m a) (place m r) comes goes)
       (placed m (uncut kept k cuts l a r)) (gate_at kept' goes k (place m r) (place m a) (place m l))
@@ -148,9 +149,9 @@ module _ {m : ℕ} {kept : Point → Bool} (kept' : ℕ → Bool) (agree : (p : 
       let half = second_half t in
       rw (back half, kept_there half ∙ never out ((restricted closed).right t))
 
-  module _ (k cuts : ℕ) {l a r : Point} (comes goes : Side) (t : Triangle m (suc k) l a r) where
-    halves : kept (midpoint l r) ≡ true → Leads k (suc cuts) l (midpoint l r) a (across comes) Leg →
-        Leads k (suc cuts) a (midpoint l r) r Leg (across goes) → Leads (suc k) cuts l a r comes goes
+  module _ (k cuts : ℕ) {l a r : Point} (comes goes : Option Side) (t : Triangle m (suc k) l a r) where
+    halves : kept (midpoint l r) ≡ true → Leads k (suc cuts) l (midpoint l r) a (across comes) (Some Leg) →
+        Leads k (suc cuts) a (midpoint l r) r (Some Leg) (across goes) → Leads (suc k) cuts l a r comes goes
     unfolding passages uncut
     halves keeps p q =
         let c = place m (midpoint l r) in
@@ -168,7 +169,7 @@ module _ {m : ℕ} {kept : Point → Bool} (kept' : ℕ → Bool) (agree : (p : 
         cast (gate_whole kept' comes k (place m l) (place m a) (place m r) c (there t) e (left_whole k t out)) (rw (there t, e)) (rw out)
         (gate_whole kept' goes k (place m r) (place m a) (place m l) c (back t) e (right_whole k t out)) p
 
-  pub wedge : (k cuts : ℕ) {l a r : Point} {comes goes : Side} → Triangle m k l a r → cuts + k ≡ 2 * m → Ways comes goes →
+  pub wedge : (k cuts : ℕ) {l a r : Point} {comes goes : Option Side} → Triangle m k l a r → cuts + k ≡ 2 * m → Ways comes goes →
       Leads k cuts l a r comes goes
   unfolding passages uncut long_end leg_end
   wedge zero cuts t all w = alone zero cuts t all w
@@ -176,7 +177,7 @@ module _ {m : ℕ} {kept : Point → Bool} (kept' : ℕ → Bool) (agree : (p : 
       by (kept (midpoint l r)) refl (wedge k (suc cuts) (first_half t) (omega arith) legs)
       (wedge k (suc cuts) (second_half t) (omega arith) (by_leg (across goes)))
     where
-      by : (b : Bool) → kept (midpoint l r) ≡ b → Leads k (suc cuts) l (midpoint l r) a (across comes) Leg →
-          Leads k (suc cuts) a (midpoint l r) r Leg (across goes) → Leads (suc k) cuts l a r comes goes
+      by : (b : Bool) → kept (midpoint l r) ≡ b → Leads k (suc cuts) l (midpoint l r) a (across comes) (Some Leg) →
+          Leads k (suc cuts) a (midpoint l r) r (Some Leg) (across goes) → Leads (suc k) cuts l a r comes goes
       by true keeps p q = halves k cuts comes goes t keeps p q
       by false out p q = whole k cuts comes goes t out (alone (suc k) cuts t all w)

@@ -7,6 +7,7 @@ use Prim.Native.Nat.{ℕ, suc, ◌+◌, ◌*◌, ◌≤◌}
 use native.Mathlib.Nat.{zero-mul}
 use native.Mathlib.Omega.{arith}
 use lib.ListN.{length}
+use Rattle.std.specs.Prelude.{Some, None}
 use Rattle.grid.specs.Grid.{side, at, place, point, Inside}
 use Rattle.grid.specs.Hierarchy.{first, second}
 use Rattle.grid.specs.declared.points.Point.{Point}
@@ -19,7 +20,7 @@ use Rattle.strip.specs.Strip.{Corners, placed, going_on, strip_of}
 use Rattle.strip.specs.Reading.{read_strip, reading, AllAlike, more as and, Neighbours, nth}
 use Rattle.strip.specs.Rule.{Strip, starts as start, OneStrip}
 use Rattle.strip.specs.Inner.{passages, ring_of, laid, outset}
-use Rattle.strip.specs.declared.ring.Side.TheVariants.{Nowhere, Longest}
+use Rattle.strip.specs.declared.ring.Side.TheVariants.{Longest}
 use Rattle.strip.specs.declared.ring.Passage.{Passage}
 use Rattle.strip.proofs.Corner.{on_way, off_way}
 use Rattle.strip.proofs.Turns.{turn, differ, apart}
@@ -84,7 +85,7 @@ module _ {m : ℕ} {kept : Point → Bool} (kept' : ℕ → Bool) (agree : (p : 
       let se : side m ≡ 0 * (side m + 1) + side m = omega (arith, zero-mul (side m + 1)) in
       let nw : side m * (side m + 1) ≡ side m * (side m + 1) + 0 = omega arith in
       cast refl
-      (λ i. passages kept' (2 * m) (sw i) (se i) ne Nowhere Longest ++ passages kept' (2 * m) ne (nw i) (sw i) Longest Nowhere)
+      (λ i. passages kept' (2 * m) (sw i) (se i) ne None (Some Longest) ++ passages kept' (2 * m) ne (nw i) (sw i) (Some Longest) None)
       listed refl
       (follow (wedge kept' agree closed (2 * m) 0 first none starts) (wedge kept' agree closed (2 * m) 0 second none closes))
 
@@ -93,7 +94,7 @@ module _ {m : ℕ} {kept : Point → Bool} (kept' : ℕ → Bool) (agree : (p : 
   closing n e =
       let none : 0 + 2 * m ≡ 2 * m = omega arith in
       join (hindmost firsts (wedge kept' agree closed (2 * m) 0 second none over) n e)
-      (foremost seconds (wedge kept' agree closed (2 * m) 0 first none (legs {s = Longest})))
+      (foremost seconds (wedge kept' agree closed (2 * m) 0 first none (legs {s = (Some Longest)})))
 
   one : OneStrip (placed m (mesh m kept)) (strip_of (placed m (mesh m kept)))
   one =

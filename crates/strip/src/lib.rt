@@ -3,14 +3,16 @@
 
 mod ring;
 
-ghost use Rattle.std.specs.Prelude.{◌≡◌, ltb};
+ghost use Rattle.std.specs.Prelude.{◌≡◌, MatchResult};
 ghost use Rattle.mesh.specs.Meshed.{handed};
-ghost use Rattle.strip.specs.Stripped.{Strips};
+ghost use Rattle.strip.specs.Stripped.{Strips, refusal};
 ghost use Rattle.strip.specs.Inner.{Refused};
+ghost use Rattle.grid.specs.Refusal.{accepted};
 
 use grid::refusals::Refusal;
 use ring::ring;
 
+// C gets this struct as it stands: the refusal stays a number, 0 for none, with the places beside it.
 #[repr(C)]
 #[derive(Clone, Copy)]
 pub struct Stripped {
@@ -18,55 +20,59 @@ pub struct Stripped {
     pub places: u32,
 }
 
+// Mesh's conversion stays apart: it fills another of C's structs.
+impl From<Refusal> for Stripped {
+    ghost use Rattle.std.specs.Prelude.{◌≡◌};
+    ghost use Rattle.strip.specs.Inner.{refusing};
+
+    ghost from_gives = { λ refusal r. r ≡ refusing refusal };
+
+    fn from(refusal: Refusal) -> Stripped {
+        let places = match refusal {
+            Refusal::NoRoom(needed) => needed,
+            _ => 0,
+        };
+        Stripped {
+            refusal: u32::from(refusal),
+            places,
+        }
+    }
+}
+
 // A triangle puts at most two places into the strip, the first three and the last one.
 const MOST_EACH: usize = 2;
 
-fn lacks_room(room: usize, needed: usize) -> bool
-    ensures { result ≡ ltb room needed }
-{
-    room < needed
-}
-
 // The refusals in their order, with the places that are needed where the room lacks, before anything is written.
-fn refused(marks: &[u8], m: u32, places: &[u16]) -> Stripped
-    ensures { Refused (handed marks.now m places.now) result }
+fn look(marks: &[u8], m: u32, places: &[u16]) -> Result<(), Stripped>
+    ensures { let h = handed marks.now m places.now in MatchResult result (λ _. refusal h ≡ accepted) (λ r. Refused h r) }
 {
-    // Asked without room, triangles looks at everything, and turns down its own want of room last.
+    // Asked without room, triangles looks at everything, and turns down its own want of room last. Its answer is C's struct: refusals are numbers.
     let mut no_room = [0u16; 1];
-    let looked = mesh::triangles(marks, m, &mut no_room);
-    if looked.refusal != Refusal::NO_ROOM {
-        return Stripped {
-            refusal: looked.refusal,
+    let listed = mesh::triangles(marks, m, &mut no_room);
+    if listed.refusal != u32::from(Refusal::NoRoom(listed.triangles)) {
+        return Err(Stripped {
+            refusal: listed.refusal,
             places: 0,
-        };
+        });
     }
     // The places are counted only where there is no room for the most that these triangles can take.
-    if lacks_room(places.len(), MOST_EACH * (looked.triangles as usize)) {
+    if places.len() < MOST_EACH * (listed.triangles as usize) {
         let needed = ring(marks, m, &mut no_room);
-        if lacks_room(places.len(), needed) {
-            let count = needed as u32;
-            return Stripped {
-                refusal: Refusal::NO_ROOM,
-                places: count,
-            };
+        if places.len() < needed {
+            return Err(Refusal::NoRoom(needed as u32).into());
         }
     }
-    Stripped {
-        refusal: Refusal::ACCEPTED,
-        places: 0,
-    }
+    Ok(())
 }
 
 pub fn strip(marks: &[u8], m: u32, places: &mut [u16]) -> Stripped
     ensures { Strips (handed marks.now m places.old) result places.new }
 {
-    let looked = refused(marks, m, places);
-    if looked.refusal != Refusal::ACCEPTED {
-        return looked;
-    }
-    let written = ring(marks, m, places);
-    Stripped {
-        refusal: Refusal::ACCEPTED,
-        places: written as u32,
+    match look(marks, m, places) {
+        Ok(()) => Stripped {
+            refusal: Refusal::ACCEPTED,
+            places: ring(marks, m, places) as u32,
+        },
+        Err(refused) => refused,
     }
 }

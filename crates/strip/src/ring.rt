@@ -1,9 +1,8 @@
 // The ring of triangles, in the order of the list, and the places that it puts into the strip.
-ghost use Rattle.std.specs.Prelude.{◌≡◌, true, [], ◌∷◌, ◌+◌, ◌≤◌, length};
+ghost use Rattle.std.specs.Prelude.{◌≡◌, true, [], ◌∷◌, ◌+◌, ◌≤◌, ◌<◌, length};
 ghost use Rattle.grid.specs.Grid.{samples, largest};
-ghost use Rattle.mesh.specs.Inner.{Plain, kept_place, is_cut};
-ghost use Rattle.strip.specs.declared.ring.Side.TheVariants.{Leg};
-ghost use Rattle.strip.specs.Inner.{across, turns_by, shared_by, Short, Standing, Laid, gone_on, begun_by, first_of, taken_by, taken, ran, laid, passages_of, runs, Passable, ring_of, outset};
+ghost use Rattle.mesh.specs.Inner.{Plain, Ends, kept_place, is_cut};
+ghost use Rattle.strip.specs.Inner.{exchanged, first_half, second_half, turns_by, shared_by, Short, Laid, pair, Lays, Steps, Passes, gone_on, begun_by, first_of, taken, laid, passages_of, Passable, ring_of, outset};
 
 use grid::Grid;
 use mesh::cut::is_cut;
@@ -11,226 +10,216 @@ use mesh::cut::is_cut;
 // A side of a triangle (l, a, r) by which the strip comes in, at l, or goes out, at r.
 #[derive(Clone, Copy)]
 pub enum Side {
-    Nowhere,
     Leg,
     Longest,
 }
 
-// A triangle with so many cuts left, and how the strip passes it.
+impl Side {
+    // Of a half: its longest side is a leg of the whole, and on the whole's longest side lies a leg of it.
+    fn exchanged(self) -> Side
+        ensures { result ≡ exchanged self }
+    {
+        match self {
+            Side::Leg => Side::Longest,
+            Side::Longest => Side::Leg,
+        }
+    }
+}
+
+// A triangle with so many cuts left, and how the strip passes it: into the first one it comes by no side, and out of the last one it goes by none.
 #[derive(Clone, Copy)]
 pub struct Passage {
-    pub l: usize,
-    pub a: usize,
-    pub r: usize,
+    pub l: u16,
+    pub a: u16,
+    pub r: u16,
     pub left: u32,
-    pub comes: Side,
-    pub goes: Side,
+    pub comes: Option<Side>,
+    pub goes: Option<Side>,
 }
 
-// Of the running pair, whether the newer place is the corner at which the strip comes in; and the index of the next place.
-#[derive(Clone, Copy)]
-pub struct Running {
-    pub near: bool,
-    pub at: usize,
-}
-
-// Of a half: its longest side is a leg of the whole, and on the whole's longest side lies a leg of it.
-fn across(side: Side) -> Side
-    ensures { result ≡ across side }
-{
-    match side {
-        Side::Nowhere => Side::Nowhere,
-        Side::Leg => Side::Longest,
-        Side::Longest => Side::Leg,
+impl Passage {
+    fn is_cut(self, marks: &[u8]) -> bool
+        requires { Ends marks.now self.l self.r }
+        ensures { result ≡ is_cut (kept_place marks.now) self.left self.l self.r }
+    {
+        is_cut(marks, self.left, usize::from(self.l), usize::from(self.r))
     }
-}
 
-// Whether a turn is needed: the newer place is not on the way out. The last triangle, which has none, needs no turn.
-fn turns(t: Passage, near: bool) -> bool
-    ensures { result ≡ turns_by t.goes near }
-{
-    let goes = t.goes;
-    match goes {
-        Side::Nowhere => false,
-        Side::Leg => near,
-        Side::Longest => !near,
-    }
-}
-
-// Of the leg from l to a, the corner on the way out.
-fn shared(t: Passage) -> usize
-    ensures { result ≡ shared_by t.goes t }
-{
-    let goes = t.goes;
-    match goes {
-        Side::Nowhere => t.a,
-        Side::Leg => t.a,
-        Side::Longest => t.l,
-    }
-}
-
-// A place, where there is room for it: a pass without room only counts.
-fn put(p: usize, at: usize, places: &mut [u16]) -> usize
-    requires { (p ≤ 65535) × Short at }
-    ensures { Laid (p ∷ []) at places.old result places.new }
-{
-    if at < places.len() {
-        places[at] = p as u16;
-    }
-    at + 1
-}
-
-// From the running pair on to the triangle's third corner, the older place repeated before it where a turn is needed.
-fn go_on(
-    t: Passage,
-    older: usize,
-    third: usize,
-    near: bool,
-    s: Running,
-    places: &mut [u16],
-) -> Running
-    requires { (older ≤ 65535) × (third ≤ 65535) × Short (s.at + 1) }
-    ensures { (result ≡ (gone_on t older third near s).next) × Laid (gone_on t older third near s).places s.at places.old result.at places.new }
-{
-    if turns(t, s.near) {
-        let turned = put(older, s.at, places);
-        let at = put(third, turned, places);
-        return Running { near, at };
-    }
-    let at = put(third, s.at, places);
-    Running { near, at }
-}
-
-// Three places, of which the last two are the way out.
-fn begin(p: usize, q: usize, w: usize, near: bool, s: Running, places: &mut [u16]) -> Running
-    requires { (p ≤ 65535) × (q ≤ 65535) × (w ≤ 65535) × Short (s.at + 2) }
-    ensures { (result ≡ (begun_by p q w near s).next) × Laid (begun_by p q w near s).places s.at places.old result.at places.new }
-{
-    let one = put(p, s.at, places);
-    let two = put(q, one, places);
-    let at = put(w, two, places);
-    Running { near, at }
-}
-
-// The first triangle, counter-clockwise: (l, a, r) turns so with an even number of cuts left. The next comes in at r.
-fn first(t: Passage, s: Running, places: &mut [u16]) -> Running
-    requires { Standing t × Short (s.at + 2) }
-    ensures { (result ≡ (first_of t s).next) × Laid (first_of t s).places s.at places.old result.at places.new }
-{
-    let goes = t.goes;
-    if let Side::Longest = goes {
-        if t.left % 2 == 1 {
-            return begin(t.a, t.l, t.r, true, s, places);
-        }
-        return begin(t.a, t.r, t.l, false, s, places);
-    }
-    if t.left % 2 == 1 {
-        return begin(t.l, t.r, t.a, false, s, places);
-    }
-    begin(t.l, t.a, t.r, true, s, places)
-}
-
-// By the leg from l to a, on to r.
-fn by_leg(t: Passage, s: Running, places: &mut [u16]) -> Running
-    requires { Standing t × Short (s.at + 2) }
-    ensures { (result ≡ (taken_by Leg t s).next) × Laid (taken_by Leg t s).places s.at places.old result.at places.new }
-{
-    go_on(t, shared(t), t.r, true, s, places)
-}
-
-fn take(t: Passage, s: Running, places: &mut [u16]) -> Running
-    requires { Standing t × Short (s.at + 2) }
-    ensures { (result ≡ (taken t s).next) × Laid (taken t s).places s.at places.old result.at places.new }
-{
-    let comes = t.comes;
-    match comes {
-        Side::Nowhere => first(t, s, places),
-        Side::Leg => by_leg(t, s, places),
-        Side::Longest => go_on(t, t.r, t.a, false, s, places),
-    }
-}
-
-// The uncut triangles that a cut one leads to, in their order. The halves share the leg at the cut, from the one to the other. An uncut half is taken here,
-// which saves its call. The last triangle is come into by a leg, so that the newer place is at the next corner.
-fn pass(marks: &[u8], t: Passage, near: bool, at: usize, places: &mut [u16]) -> usize
-    requires { Passable marks.now t (runs near at) × (is_cut (kept_place marks.now) t.left t.l t.r ≡ true) }
-    ensures { Laid (laid (runs near at) (passages_of marks.now t)) at places.old result places.new }
-{
-    let comes = t.comes;
-    let goes = t.goes;
-    let cut = Grid::midpoint(t.l, t.r);
-    let left = t.left - 1;
-    let one = Passage {
-        l: t.l,
-        a: cut,
-        r: t.a,
-        left,
-        comes: across(comes),
-        goes: Side::Leg,
-    };
-    let two = Passage {
-        l: t.a,
-        a: cut,
-        r: t.r,
-        left,
-        comes: Side::Leg,
-        goes: across(goes),
-    };
-    let half = if is_cut(marks, left, t.l, t.a) {
-        Running {
-            near: true,
-            at: pass(marks, one, near, at, places),
-        }
-    } else {
-        take(one, Running { near, at }, places)
-    };
-    if is_cut(marks, left, t.a, t.r) {
-        return pass(marks, two, half.near, half.at, places);
-    }
-    by_leg(two, half, places).at
-}
-
-// A starting triangle, cut or not.
-fn start(marks: &[u8], t: Passage, s: Running, places: &mut [u16]) -> Running
-    requires { Passable marks.now t s }
-    ensures { (result ≡ ran s (passages_of marks.now t)) × Laid (laid s (passages_of marks.now t)) s.at places.old result.at places.new }
-{
-    if is_cut(marks, t.left, t.l, t.r) {
-        return Running {
-            near: true,
-            at: pass(marks, t, s.near, s.at, places),
+    // The halves share the leg at the cut, from the one to the other.
+    fn halves(self) -> (Passage, Passage)
+        requires { (0 < self.left) × (self.l ≤ samples largest) × (self.r ≤ samples largest) }
+        ensures { (result.0 ≡ first_half self) × (result.1 ≡ second_half self) }
+    {
+        let cut = Grid::midpoint(usize::from(self.l), usize::from(self.r)) as u16;
+        let left = self.left - 1;
+        let one = Passage {
+            l: self.l,
+            a: cut,
+            r: self.a,
+            left,
+            comes: self.comes.map(Side::exchanged),
+            goes: Some(Side::Leg),
         };
+        let two = Passage {
+            l: self.a,
+            a: cut,
+            r: self.r,
+            left,
+            comes: Some(Side::Leg),
+            goes: self.goes.map(Side::exchanged),
+        };
+        (one, two)
     }
-    take(t, s, places)
+
+    // Whether a turn is needed: the newer place is not on the way out. The last triangle, which has none, needs no turn.
+    fn turns(self, near: bool) -> bool
+        ensures { result ≡ turns_by self.goes near }
+    {
+        match self.goes {
+            None => false,
+            Some(Side::Leg) => near,
+            Some(Side::Longest) => !near,
+        }
+    }
+
+    // Of the leg from l to a, the corner on the way out.
+    fn shared(self) -> u16
+        ensures { result ≡ shared_by self.goes self }
+    {
+        match self.goes {
+            Some(Side::Longest) => self.l,
+            _ => self.a,
+        }
+    }
 }
 
-// The whole ring: the starting triangles share the diagonal.
+// The strip as it is laid: the places that are lent, the index of the next one, and of the running pair whether the newer place is the corner at which
+// the strip comes in.
+#[derive(Drop)]
+pub struct Laying<'a> {
+    pub places: &'a mut [u16],
+    pub at: usize,
+    pub near: bool,
+}
+
+impl Laying<'_> {
+    // A place, where there is room for it: a pass without room only counts. That the index is short stays a `requires`: each place adds to it, so that no
+    // ghost field could keep it.
+    fn put(&mut self, p: u16)
+        requires { Short self.old.at }
+        ensures { Lays (p ∷ []) self.old.near self.old self.new }
+    {
+        let at = self.at;
+        if at < self.places.len() {
+            self.places[at] = p;
+        }
+        self.at = at + 1;
+    }
+
+    // From the running pair on to the triangle's third corner, the older place repeated before it where a turn is needed.
+    fn go_on(&mut self, t: &Passage, older: u16, third: u16, near: bool)
+        requires { Short (self.old.at + 1) }
+        ensures { Steps (gone_on t.now older third near (pair self.old)) self.old self.new }
+    {
+        if t.turns(self.near) {
+            self.put(older);
+        }
+        self.put(third);
+        self.near = near;
+    }
+
+    // Three places, of which the last two are the way out.
+    fn begin(&mut self, p: u16, q: u16, w: u16, near: bool)
+        requires { Short (self.old.at + 2) }
+        ensures { Steps (begun_by p q w near (pair self.old)) self.old self.new }
+    {
+        self.put(p);
+        self.put(q);
+        self.put(w);
+        self.near = near;
+    }
+
+    // The first triangle, counter-clockwise: (l, a, r) turns so with an even number of cuts left. The next comes in at r.
+    fn first(&mut self, t: &Passage)
+        requires { Short (self.old.at + 2) }
+        ensures { Steps (first_of t.now (pair self.old)) self.old self.new }
+    {
+        match (t.goes, t.left % 2 == 1) {
+            (Some(Side::Longest), true) => self.begin(t.a, t.l, t.r, true),
+            (Some(Side::Longest), false) => self.begin(t.a, t.r, t.l, false),
+            (_, true) => self.begin(t.l, t.r, t.a, false),
+            (_, false) => self.begin(t.l, t.a, t.r, true),
+        }
+    }
+
+    fn take(&mut self, t: &Passage)
+        requires { Short (self.old.at + 2) }
+        ensures { Steps (taken t.now (pair self.old)) self.old self.new }
+    {
+        match t.comes {
+            None => self.first(t),
+            Some(Side::Leg) => self.go_on(t, t.shared(), t.r, true),
+            Some(Side::Longest) => self.go_on(t, t.r, t.a, false),
+        }
+    }
+
+    // The uncut triangles that one leads to, in their order: itself, or what its halves lead to. Two functions, the one inlined into the other: as one
+    // function, the ring of the largest real grid takes 104.2 instructions a triangle, and so 98.0.
+    #[cycle(passing)]
+    #[inline(always)]
+    fn pass(&mut self, marks: &[u8], t: &Passage)
+        requires { Passable marks.now t.now (pair self.old) }
+        ensures { Passes (passages_of marks.now t.now) self.old self.new }
+    {
+        if t.is_cut(marks) {
+            self.pass_halves(marks, t);
+        } else {
+            self.take(t);
+        }
+    }
+
+    #[cycle(passing)]
+    fn pass_halves(&mut self, marks: &[u8], t: &Passage)
+        requires { Passable marks.now t.now (pair self.old) × (is_cut (kept_place marks.now) t.now.left t.now.l t.now.r ≡ true) }
+        ensures { Passes (passages_of marks.now t.now) self.old self.new }
+    {
+        let (one, two) = t.halves();
+        self.pass(marks, &one);
+        self.pass(marks, &two);
+    }
+}
+
+// The whole ring: the starting triangles share the diagonal. The mesh and the walk have them, too, each in its own type.
 pub(crate) fn ring(marks: &[u8], m: u32, places: &mut [u16]) -> usize
     requires { (m ≤ largest) × Plain marks.now × (length marks.now ≡ samples m) }
     ensures { Laid (laid outset (ring_of (kept_place marks.now) m)) 0 places.old result places.new }
 {
-    let g = grid::sizes::grid_of(m);
-    let se = g.side as usize;
-    let nw = se * (se + 1);
+    let side = grid::sizes::grid_of(m).side;
+    let se = side as u16;
+    let nw = (side * (side + 1)) as u16;
     let ne = nw + se;
-    let none = Running { near: false, at: 0 };
     let one = Passage {
         l: 0,
         a: se,
         r: ne,
         left: 2 * m,
-        comes: Side::Nowhere,
-        goes: Side::Longest,
+        comes: None,
+        goes: Some(Side::Longest),
     };
     let two = Passage {
         l: ne,
         a: nw,
         r: 0,
         left: 2 * m,
-        comes: Side::Longest,
-        goes: Side::Nowhere,
+        comes: Some(Side::Longest),
+        goes: None,
     };
-    let half = start(marks, one, none, places);
-    let s = start(marks, two, half, places);
-    s.at
+    let mut laying = Laying {
+        places,
+        at: 0,
+        near: false,
+    };
+    laying.pass(marks, &one);
+    laying.pass(marks, &two);
+    laying.at
 }

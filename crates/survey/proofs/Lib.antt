@@ -8,3 +8,4 @@ pub mod Rows
 pub mod Sweep
 pub mod Rule
 pub mod Values
+pub mod Leaving

@@ -12,7 +12,6 @@ use lib.Seq.{get_or-set_same, get_or-set_other}
 use lib.IntN.{ℤ}
 use Rattle.grid.specs.Grid.{void, is_void, samples, place, point, Inside}
 use Rattle.grid.specs.Points.{ends}
-use Rattle.grid.specs.declared.Grid.{Grid}
 use Rattle.grid.specs.declared.points.Point.{Point}
 use Rattle.grid.proofs.Spaced.{corner_inside}
 use Rattle.grid.proofs.Places.{place_below, point_place, point_inside}
@@ -74,9 +73,9 @@ module _ (m : ℕ) (survey heights : List ℤ) (part : Partly m survey heights) 
       ⊎_elim (λ f. ap is_void f ∙ c p e) (λ f. ap is_void (f ∙ s) ∙ c p e) (at_point m survey heights part p (corner_inside m p e))
 
 -- so filling may go on
-pub ready_on : {g : Grid} {a b : List ℤ} → Ready g a → Partly g.m a b → Ready g b
-ready_on {g} {a} {b} r part =
-    record { sound = r.sound; long = part.long ∙ r.long; corners = still_cornered g.m a b part r.corners }
+pub ready_on : {m : ℕ} {a b : List ℤ} → Ready m a → Partly m a b → Ready m b
+ready_on {m} {a} {b} r part =
+    record { long = part.long ∙ r.long; corners = still_cornered m a b part r.corners }
 
 pub partly_none : (m : ℕ) (survey : List ℤ) → Partly m survey survey
 partly_none m survey = record { long = refl; each = λ i h. inl refl }

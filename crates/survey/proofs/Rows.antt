@@ -1,12 +1,11 @@
 -- From row to row of a spacing, and from each spacing to half of it: what is behind is filled.
-use mathlib.Core.Path.{◌≡◌, refl, sym, ap, ◌∙◌}
+use mathlib.Core.Path.{◌≡◌, refl, sym}
 use mathlib.Core.List.{List}
-use Prim.Native.Nat.{ℕ, zero, suc, ◌+◌, ◌-◌, ◌*◌, ◌^◌, ◌/◌, ◌%◌, ◌≤◌, ◌<◌}
+use Prim.Native.Nat.{ℕ, suc, ◌+◌, ◌-◌, ◌*◌, ◌^◌, ◌%◌, ◌≤◌, ◌<◌}
 use native.Mathlib.Decide.{ℕ_discrete, dec_lt}
-use native.Mathlib.Nat.{mul-one, mul-le-mul_left, pow-suc}
+use native.Mathlib.Nat.{mul-one, mul-le-mul_left}
 use native.Mathlib.Omega.{arith}
 use lib.IntN.{ℤ}
-use lib.Pow.{pow_pos}
 use Rattle.grid.specs.Grid.{side, at, place}
 use Rattle.grid.specs.Inner.{Power, Spread, CentreKind, reach_by, next_kind}
 use Rattle.grid.specs.declared.points.Kind.{Kind}
@@ -94,54 +93,19 @@ module _ {m s : ℕ} (w : Power m s) where
 abbrev pub SpacingFilled : ℕ → List ℤ → ℕ → Type 0
 SpacingFilled m heights s = RowsFilled m heights s 0 × RowsFilled m heights s 1
 
--- s is half a power of two up to N, the floor, and the spacings from that power on are filled
-pub record Halved (m : ℕ) (heights : List ℤ) (s : ℕ) : Type 0 where
-  exponent : ℕ
-  half : s ≡ 2 ^ exponent / 2
-  most : exponent ≤ m
-  filled : (j : ℕ) → exponent ≤ j → j < m → SpacingFilled m heights (2 ^ j)
+-- the spacings from 2^k on are filled
+pub record Coarser (m : ℕ) (heights : List ℤ) (k : ℕ) : Type 0 where
+  pub filled : (j : ℕ) → k ≤ j → j < m → SpacingFilled m heights (2 ^ j)
 
-pub halved_first : (m : ℕ) {s : ℕ} (heights : List ℤ) → s ≡ side m / 2 → Halved m heights s
-halved_first m heights e = record { exponent = m; half = e; most = omega arith; filled = λ j l h. absurd (omega arith) }
+-- and so is the one before them
+pub coarser_on : {m k s : ℕ} {before between after : List ℤ} → 0 < k → s ≡ 2 ^ (k - 1) → Coarser m before k →
+    Swept m before between (RowsFilled m between s 0) → Swept m between after (RowsFilled m after s 1) → Coarser m after (k - 1)
+coarser_on {m} {k} {s} {before} {between} {after} some e here even odd = record { filled = λ j l h. go j l h (ℕ_discrete j (k - 1)) }
+  where
+    part : Partly m before after
+    part = partly_then m before between after even.partly odd.partly
 
--- half of a power of two is 0 or the power before it
-half_power : {m s : ℕ} (j : ℕ) → s ≡ 2 ^ j / 2 → 0 < s → j ≤ m → Power m s
-half_power zero e l h = absurd (omega arith)
-half_power (suc j) e l h = record { exponent = j; power = omega (arith, pow-suc 2 j); below = h }
-
-half_exponent : {m s : ℕ} (j : ℕ) (e : s ≡ 2 ^ j / 2) (l : 0 < s) (h : j ≤ m) → j ≡ suc (half_power j e l h).exponent
-unfolding half_power
-half_exponent zero e l h = absurd (omega arith)
-half_exponent (suc j) e l h = refl
-
-half_none : (j : ℕ) → 2 ^ j / 2 ≡ 0 → j ≡ 0
-half_none zero e = refl
-half_none (suc j) e = absurd (omega (arith, pow-suc 2 j, pow_pos j))
-
-module _ {m s : ℕ} {heights : List ℤ} (here : Halved m heights s) where
-  pub power_here : 0 < s → Power m s
-  power_here l = half_power here.exponent here.half l here.most
-
-  pub halved_on : 0 < s → {between after : List ℤ} → Swept m heights between (RowsFilled m between s 0) → Swept m between after (RowsFilled m after s 1) →
-      Halved m after (s / 2)
-  unfolding power_here
-  halved_on l {between} {after} even odd =
-      let p = power_here l in
-      record {
-        exponent = p.exponent;
-        half = ap (λ (n : ℕ). n / 2) p.power;
-        most = omega (arith, p.below);
-        filled = λ j e h. go j e h (ℕ_discrete j p.exponent);
-      }
-    where
-      part : Partly m heights after
-      part = partly_then m heights between after even.partly odd.partly
-
-      go : (j : ℕ) → (power_here l).exponent ≤ j → j < m → Dec (j ≡ (power_here l).exponent) → SpacingFilled m after (2 ^ j)
-      go j e h (yes same) = rw (same, ← (power_here l).power) (rows_stay s 0 odd.partly even.stand, odd.stand)
-      go j e h (no other) =
-          let step = half_exponent here.exponent here.half l here.most in
-          let f = here.filled j (omega arith) h in (rows_stay (2 ^ j) 0 part f.0, rows_stay (2 ^ j) 1 part f.1)
-
-  pub all_filled : s ≡ 0 → (j : ℕ) → j < m → SpacingFilled m heights (2 ^ j)
-  all_filled e j h = here.filled j (omega (arith, half_none here.exponent (sym here.half ∙ e))) h
+    go : (j : ℕ) → k - 1 ≤ j → j < m → Dec (j ≡ k - 1) → SpacingFilled m after (2 ^ j)
+    go j l h (yes same) = rw (same, ← e) (rows_stay s 0 odd.partly even.stand, odd.stand)
+    go j l h (no other) =
+        let f = here.filled j (omega arith) h in (rows_stay (2 ^ j) 0 part f.0, rows_stay (2 ^ j) 1 part f.1)

@@ -11,7 +11,6 @@ use lib.IntN.{ℤ}
 use Rattle.grid.specs.Grid.{Sound, side, samples, largest, widest, at, place, point, Inside}
 use Rattle.grid.specs.Points.{kind}
 use Rattle.grid.specs.Inner.{Power, Spread, CentreKind, reach_by, next_kind}
-use Rattle.grid.specs.declared.Grid.{Grid}
 use Rattle.grid.specs.declared.points.Kind.{Kind}
 use Rattle.grid.proofs.Around.{Way, row, column, rise, fall}
 use Rattle.grid.proofs.Places.{side_small, place_below, point_place}
@@ -142,12 +141,12 @@ pub record Small (n s y : ℕ) : Type 0 where
   pub up : s * (n + 1) ≤ samples largest
   pub more : s ≤ s * (n + 1)
 
-module _ {g : Grid} {s y : ℕ} (sound : Sound g) (w : Power g.m s) where
-  pub small : y ≤ side g.m → Small g.side s y
+module _ {m n : ℕ} {s y : ℕ} (sound : Sound m n) (w : Power m s) where
+  pub small : y ≤ side m → Small n s y
   small l =
       let few = spacing_small w sound.small in
-      let wide : g.side ≤ widest = rw sound.sided (side_small sound.small) in
-      let row : g.side + 1 ≤ widest + 1 = omega arith in
+      let wide : n ≤ widest = rw sound.sided (side_small sound.small) in
+      let row : n + 1 ≤ widest + 1 = omega arith in
       let high : y ≤ widest + 1 = omega (arith, side_small sound.small) in
       let far : s ≤ widest + 1 = omega arith in
       record {
@@ -156,24 +155,24 @@ module _ {g : Grid} {s y : ℕ} (sound : Sound g) (w : Power g.m s) where
         wide = wide;
         row = mul-le-mul high row;
         up = mul-le-mul far row;
-        more = ups g.side s;
+        more = ups n s;
       }
 
   -- in an even row, the edge points
-  pub even_run : y ≤ side g.m → Row s 0 y → Run g.m (y * (g.side + 1) + s) (y * (g.side + 1) + (g.side + 1)) (2 * s) s
+  pub even_run : y ≤ side m → Row s 0 y → Run m (y * (n + 1) + s) (y * (n + 1) + (n + 1)) (2 * s) s
   even_run l r =
       row_run w sound.small r.times l 1 2 (λ i. row (omega arith) r.is) sound.sided (omega arith) refl (omega arith) refl
       (omega arith) (omega arith)
 
   -- in an odd row, the edge points; and the centres, from the first on and from the second on
-  module _ (r : Row s 1 y) {reach : ℕ} (h : Spread g.m (at s y) reach) where
-    pub odd_run : Run g.m (y * (g.side + 1)) (y * (g.side + 1) + (g.side + 1)) (2 * s) (s * (g.side + 1))
+  module _ (r : Row s 1 y) {reach : ℕ} (h : Spread m (at s y) reach) where
+    pub odd_run : Run m (y * (n + 1)) (y * (n + 1) + (n + 1)) (2 * s) (s * (n + 1))
     odd_run =
         row_run w sound.small r.times h.inside.north 0 2 (λ i. column (omega arith) r.is) sound.sided (omega arith) refl (omega arith) refl
         (omega arith) (omega arith)
 
     abbrev first : Kind
-    first = kind g.m (at s y)
+    first = kind m (at s y)
 
     way : Way 1 r.number first
     way = kind_way (stands w (sym (mul-one s)) r.times h.inside (inl refl))
@@ -181,23 +180,23 @@ module _ {g : Grid} {s y : ℕ} (sound : Sound g) (w : Power g.m s) where
     centre : CentreKind first
     centre = centre_kind r.is way
 
-    reached : reach ≡ reach_by first g.side s
+    reached : reach ≡ reach_by first n s
     reached =
         let f = measured (stands w {a = 1} (sym (mul-one s)) r.times h.inside (inl refl)) in
         h.reached ∙ (λ i. reach_by first (sym sound.sided i) ((f.spaced ∙ sym w.power) i))
 
-    pub reach_small : reach ≤ 2 * (s * (g.side + 1))
-    reach_small = rw reached (reach_most g.side s centre)
+    pub reach_small : reach ≤ 2 * (s * (n + 1))
+    reach_small = rw reached (reach_most n s centre)
 
-    pub first_run : Run g.m (y * (g.side + 1) + s) (y * (g.side + 1) + (g.side + 1)) (4 * s) reach
+    pub first_run : Run m (y * (n + 1) + s) (y * (n + 1) + (n + 1)) (4 * s) reach
     first_run =
         row_run w sound.small r.times h.inside.north 1 4 (λ i. fours_on i way) sound.sided (omega arith) refl (omega arith) reached
         (omega arith) (omega arith)
 
-    pub second_run : Run g.m (y * (g.side + 1) + 3 * s) (y * (g.side + 1) + (g.side + 1)) (4 * s) (2 * (s * (g.side + 1)) - reach)
+    pub second_run : Run m (y * (n + 1) + 3 * s) (y * (n + 1) + (n + 1)) (4 * s) (2 * (s * (n + 1)) - reach)
     second_run =
         row_run w sound.small r.times h.inside.north 3 4 (λ i. fours_on i (next_east way)) sound.sided (omega arith) refl (omega arith)
-        (rw reached (sym (other_reach g.side s centre))) (omega arith) (omega arith)
+        (rw reached (sym (other_reach n s centre))) (omega arith) (omega arith)
 
 -- the runs of a row are its points of spacing s
 module _ (m s y : ℕ) {n : ℕ} (heights : List ℤ) (sided : n ≡ side m) where
@@ -225,22 +224,22 @@ module _ (m s y : ℕ) {n : ℕ} (heights : List ℤ) (sided : n ≡ side m) whe
           let e : 3 + 4 * (a / 4) ≡ a = omega arith in
           rw e at (run_row m s y 3 4 sided (omega arith) (omega arith) heights refl seconds (a / 4) (rw e h))
 
-module _ {g : Grid} {s y : ℕ} {a b : List ℤ} (sound : Sound g) where
-  pub even_swept : Row s 0 y → Swept g.m a b (RunFilled b (y * (g.side + 1) + s) (y * (g.side + 1) + (g.side + 1)) (2 * s)) →
-      Swept g.m a b (RowFilled g.m b s 0 y)
-  even_swept r f = record { partly = f.partly; stand = even_filled g.m s y b sound.sided f.stand }
+module _ {m n : ℕ} {s y : ℕ} {a b : List ℤ} (sound : Sound m n) where
+  pub even_swept : Row s 0 y → Swept m a b (RunFilled b (y * (n + 1) + s) (y * (n + 1) + (n + 1)) (2 * s)) →
+      Swept m a b (RowFilled m b s 0 y)
+  even_swept r f = record { partly = f.partly; stand = even_filled m s y b sound.sided f.stand }
 
-  module _ {reach : ℕ} {c d : List ℤ} (w : Power g.m s) (r : Row s 1 y) (h : Spread g.m (at s y) reach) where
-    pub odd_swept : Swept g.m a b (RunFilled b (y * (g.side + 1)) (y * (g.side + 1) + (g.side + 1)) (2 * s)) →
-        Swept g.m b c (RunFilled c (y * (g.side + 1) + s) (y * (g.side + 1) + (g.side + 1)) (4 * s)) →
-        Swept g.m c d (RunFilled d (y * (g.side + 1) + 3 * s) (y * (g.side + 1) + (g.side + 1)) (4 * s)) →
-        Swept g.m a d (RowFilled g.m d s 1 y)
+  module _ {reach : ℕ} {c d : List ℤ} (w : Power m s) (r : Row s 1 y) (h : Spread m (at s y) reach) where
+    pub odd_swept : Swept m a b (RunFilled b (y * (n + 1)) (y * (n + 1) + (n + 1)) (2 * s)) →
+        Swept m b c (RunFilled c (y * (n + 1) + s) (y * (n + 1) + (n + 1)) (4 * s)) →
+        Swept m c d (RunFilled d (y * (n + 1) + 3 * s) (y * (n + 1) + (n + 1)) (4 * s)) →
+        Swept m a d (RowFilled m d s 1 y)
     odd_swept edges firsts seconds =
-        let after = partly_then g.m b c d firsts.partly seconds.partly in
+        let after = partly_then m b c d firsts.partly seconds.partly in
         record {
-          partly = partly_then g.m a b d edges.partly after;
+          partly = partly_then m a b d edges.partly after;
           stand =
-              odd_filled g.m s y d sound.sided
+              odd_filled m s y d sound.sided
               (run_stays (odd_run sound w r h) after edges.stand)
               (run_stays (first_run sound w r h) seconds.partly firsts.stand)
               seconds.stand;

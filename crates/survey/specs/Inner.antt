@@ -1,23 +1,15 @@
 -- What functions inside this crate may ask, and what they leave in the lent heights on the way. No rule rests on it. Definitions only.
 use Rattle.std.specs.Prelude.{◌≡◌, true, false, List, ◌⊎◌, ℕ, ◌+◌, ◌-◌, ◌*◌, ◌%◌, ◌≤◌, ◌<◌, get_or, length, ℤ}
-use Rattle.grid.specs.Grid.{Sound, Inside, void, is_void, samples, largest, at, place, point}
+use Rattle.grid.specs.Grid.{Inside, void, is_void, samples, largest, at, place, point}
 use Rattle.grid.specs.Points.{level}
 use Rattle.grid.specs.Inner.{Spread}
-use Rattle.grid.specs.declared.Grid.{Grid}
 use Rattle.grid.specs.declared.points.Point.{Point}
 use Rattle.survey.specs.Filled.{height_of, CornersSurveyed}
-use Rattle.survey.specs.Rule.{Sixteen}
 
--- heights of a sound grid, perhaps not yet filled
-pub record Ready (g : Grid) (heights : List ℤ) : Type 0 where
-  pub sound : Sound g
-  pub long : length heights ≡ samples g.m
-  pub corners : CornersSurveyed g.m heights
-
--- copied, each of its samples having 16 bits
-pub record Copied (survey heights : List ℤ) : Type 0 where
-  pub same : heights ≡ survey
-  pub sixteen : Sixteen survey
+-- heights of a grid, perhaps not yet filled
+pub record Ready (m : ℕ) (heights : List ℤ) : Type 0 where
+  pub long : length heights ≡ samples m
+  pub corners : CornersSurveyed m heights
 
 -- how far a point lies below the largest spacing
 abbrev pub depth : ℕ → Point → ℕ

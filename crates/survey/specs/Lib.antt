@@ -1,3 +1,4 @@
 pub mod Filled
 pub mod Rule
 pub mod Inner
+pub mod Left

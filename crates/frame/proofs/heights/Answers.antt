@@ -1,86 +1,60 @@
--- `frame::heights` meets its contract: past the refusals the input has room for the survey's heights, and what is
--- copied is the survey.
-use mathlib.Core.Path.{◌≡◌, refl, sym, ap, ◌∙◌}
-use mathlib.Core.List.{List}
-use mathlib.Core.Logic.{◌≢◌}
-use Prim.Native.Nat.{◌+◌, ◌*◌, ◌≤◌}
-use native.Mathlib.Omega.{arith}
-use lib.ListN.{length}
-use lib.IntN.{ℤ}
-use Rattle.grid.specs.Grid.{samples}
-use Rattle.grid.specs.Refusal.{accepted, wrong_length}
+-- `frame::heights` meets its contract: past the refusals the input has room for the survey's heights, and what is copied is the survey.
+use Rattle.std.proofs.Common.{◌≡◌, ◌+◌, ◌*◌, ◌≤◌, ◌<◌, length, sym, ap, ◌∙◌, arith, Ok}
+use Rattle.std.proofs.lemmas.Result.{err_from_is_err_and}
+use Rattle.grid.specs.Grid.{samples, largest}
 use Rattle.grid.specs.Sizes.{size_answer}
-use Rattle.grid.specs.declared.sizes.SizeAnswer.{SizeAnswer}
-use Rattle.grid.proofs.Sized.{within}
-use Rattle.frame.specs.Frame.{heights_at, height_bytes, size_in, refusal, answer_of, Handed, handed, Surveys}
-use Rattle.frame.specs.Inner.{Copied}
-use Rattle.frame.specs.Rule.{Long, frame, buffer, none}
+use Rattle.grid.specs.declared.sizes.Size.{Size}
+use Rattle.grid.proofs.Sized.{given, refused}
+use Rattle.frame.specs.Frame.{heights_at, height_bytes, number_of, size_in, answer_of, Handed, handed}
+use Rattle.frame.specs.Rule.{Long}
 use Rattle.frame.specs.declared.Frame.{Frame}
-use Rattle.frame.proofs.Accepted.{turned, accepted_input, heights_only}
-use Rattle.frame.proofs.Answered.{answer_taken, answer_refusal, survey_is, survey_taken}
-use Rattle.frame.proofs.Rule.{meets}
+use Rattle.frame.proofs.Accepted.{accepted_input, answer_short, answer_wrong, answer_long}
+use Rattle.frame.proofs.Answered.{frame_is, survey_is, turned_down, surveyed}
 use Rattle.frame.proofs.heights.Goals as goal
 
--- r is what the code was told of the input
-module _ (h : Handed) (r : Frame) (e : r ≡ answer_of h.input) where
-  number : r.refusal ≡ refusal h.input
-  number = ap (λ (a : Frame). a.refusal) e ∙ answer_refusal h.input
+-- f is what the code was told of the input, and size of the size
+module _ (h : Handed) (f : Frame) (e : Ok f ≡ answer_of h.input) where
+  input_accepted : number_of (answer_of h.input) ≡ 0
+  input_accepted = sym (ap number_of e)
 
-  input_refused : r.refusal ≢ accepted → Surveys h r.refusal h.survey
-  input_refused n =
-      meets (record { turned = frame (rw number (turned h.input)) n; refused = λ _. refl; surveyed = λ k. absurd (n k) })
+  m_is : f.m ≡ size_in h.input
+  m_is = ap (λ (f : Frame). f.m) (frame_is h.input (sym e))
 
-  -- and a what it was told of the size
-  module _ (z : r.refusal ≡ accepted) (a : SizeAnswer) (s : a ≡ size_answer r.m) where
-    ok : refusal h.input ≡ accepted
-    ok = sym number ∙ z
+  never_above : largest < f.m → ⊥
+  never_above l = omega (arith, l, m_is, (accepted_input h.input input_accepted).small)
 
-    size : r.m ≡ size_in h.input
-    size = ap (λ (a : Frame). a.m) (e ∙ answer_taken h.input ok)
+  module _ (size : Size) (s : Ok size ≡ size_answer f.m) where
+    many : size.samples ≡ samples (size_in h.input)
+    many = ap (λ (z : Size). z.samples) (given f.m s).1 ∙ ap samples m_is
 
-    many : a.size.samples ≡ samples (size_in h.input)
-    many = (within r.m a s (omega (arith, size, (accepted_input h.input ok).small))).1 ∙ ap samples size
+    room : length h.survey ≡ size.samples → heights_at + height_bytes * length h.survey ≤ length h.input
+    room l = rw (l ∙ many) (omega (arith, (accepted_input h.input input_accepted).long))
 
-    buffer_refused : length h.survey ≢ a.size.samples → Surveys h wrong_length h.survey
-    buffer_refused n =
-        meets
-        (record {
-          turned = buffer (rw ok at (turned h.input)) (λ l. n (l ∙ sym many));
-          refused = λ _. refl;
-          surveyed = λ k. absurd (omega arith);
-        })
-
-    module _ (l : length h.survey ≡ a.size.samples) where
-      long : Long h
-      long = l ∙ many
-
-      room : heights_at + height_bytes * length h.survey ≤ length h.input
-      room = rw long (omega (arith, (accepted_input h.input ok).long))
-
-      copied : {survey' : List ℤ} → Copied h.input (length h.survey) survey' → Surveys h accepted survey'
-      copied c =
-          let answer = heights_only h (none (rw ok at (turned h.input)) long) in
-          record { answer = answer; survey = survey_is h.input (rw long at c) ∙ sym (survey_taken h (sym answer)) }
-
-pub returns-then-frame-ne-ACCEPTED : goal.returns-then-frame-ne-ACCEPTED
-returns-then-frame-ne-ACCEPTED c =
+pub returns-in_err-frame : goal.returns-in_err-frame
+returns-in_err-frame c =
     let h = handed c.args.input.now c.args.survey.now in
-    input_refused h _ c.read-frame.ensures c.if-frame-ne-ACCEPTED.true
+    let p = err_from_is_err_and c.from_residual.result c.from_residual.ensures.1 in
+    rw (p.1, p.2) (turned_down h (answer_short h (sym c.in_err-frame.ensures)))
+
+pub returns-in_err-size : goal.returns-in_err-size
+returns-in_err-size c =
+    let h = handed c.args.input.now c.args.survey.now in
+    absurd (never_above h c.in_ok-frame.frame c.in_ok-frame.ensures (refused c.in_ok-frame.frame.m c.in_err-size.ensures).0)
 
 pub returns-then-survey-size : goal.returns-then-survey-size
 returns-then-survey-size c =
     let h = handed c.args.input.now c.args.survey.now in
-    buffer_refused h _ c.read-frame.ensures c.if-frame-ne-ACCEPTED.false _ c.size_of.ensures
-    (λ e. omega (arith, c.if-survey-size.true, e))
+    turned_down h
+    (answer_wrong h (sym c.in_ok-frame.ensures)
+    (λ l. omega (arith, c.if-survey-size.true, l ∙ sym (many h c.in_ok-frame.frame c.in_ok-frame.ensures c.in_ok-size.size c.in_ok-size.ensures))))
 
 pub copy-requires : goal.copy-requires
 copy-requires c =
     let h = handed c.args.input.now c.args.survey.now in
-    room h _ c.read-frame.ensures c.if-frame-ne-ACCEPTED.false _ c.size_of.ensures (omega (arith, c.if-survey-size.false))
+    room h c.in_ok-frame.frame c.in_ok-frame.ensures c.in_ok-size.size c.in_ok-size.ensures (omega (arith, c.if-survey-size.false))
 
 pub returns : goal.returns
 returns c =
     let h = handed c.args.input.now c.args.survey.now in
-    copied h _ c.read-frame.ensures c.if-frame-ne-ACCEPTED.false _ c.size_of.ensures
-    (omega (arith, c.if-survey-size.false))
-    c.copy.ensures
+    let l : Long h = c.if-survey-size.false ∙ many h c.in_ok-frame.frame c.in_ok-frame.ensures c.in_ok-size.size c.in_ok-size.ensures in
+    surveyed h (answer_long h (sym c.in_ok-frame.ensures) l) (survey_is h.input (rw l at c.copy.ensures))

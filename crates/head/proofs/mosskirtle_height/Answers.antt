@@ -15,9 +15,9 @@ number h a e k = let told = rw e at k in rw (← told) at (height_number h).numb
 pub float_to_bits-result : goal.float_to_bits-result
 float_to_bits-result c =
     let h = handed c.args.marks.now c.args.heights.now c.args.m c.args.x c.args.y in
-    number h _ c.in-Surveyed.is c.height-answer.ensures.answer
+    number h _ c.in-Surveyed.is c.height.ensures.answer
 
 pub float_to_bits-result-in-Filled : goal.float_to_bits-result-in-Filled
 float_to_bits-result-in-Filled c =
     let h = handed c.args.marks.now c.args.heights.now c.args.m c.args.x c.args.y in
-    number h _ c.in-Filled.is c.height-answer.ensures.answer
+    number h _ c.in-Filled.is c.height.ensures.answer

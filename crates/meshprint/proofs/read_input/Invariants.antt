@@ -1,9 +1,9 @@
 -- Each turn leaves fewer bytes to be read.
-use Rattle.std.proofs.Common.{length, ◌-◌, ◌≡◌, ◌≤◌}
+use Rattle.std.proofs.Common.{length, ◌-◌, ◌≤◌}
 use Rattle.meshprint.proofs.read_input.Given as goal
 
 abbrev pub invariant-loop-done : goal.invariant-loop-done
-invariant-loop-done g l = (l.done ≤ length l.input) × (length l.input ≡ length l.initial.input)
+invariant-loop-done g l = l.done ≤ length l.input
 
 abbrev pub decreases-loop-done : goal.decreases-loop-done
 decreases-loop-done g l = length l.initial.input - l.done

@@ -1,31 +1,24 @@
--- `selection::corner_void` meets its contract: the four are asked in turn.
+-- `selection::corner_void` meets its contract: each of the four lies inside.
+use Rattle.std.proofs.Common.{rules, ap, ◌∙◌}
+use Rattle.std.specs.List.{list_any}
+use Rattle.std.proofs.lemmas.Iterator.{YieldsList-from_slice}
+use Rattle.std.proofs.lemmas.Iterator.Search.{any_from_yields_List}
+use Rattle.std.proofs.lemmas.Iterator.Adapters.{serves_from_places}
+use Rattle.grid.specs.Grid.{is_void}
+use Rattle.grid.specs.declared.points.Point.{Point}
+use Rattle.survey.specs.Filled.{sample}
 use Rattle.selection.specs.Selected.{corner_void}
-use Rattle.selection.proofs.InTurn.{here, further, last}
+use Rattle.selection.proofs.Corners.{corner_inside}
 use Rattle.selection.proofs.corner_void.Goals as goal
 
-pub returns-then-void_at : goal.returns-then-void_at
-unfolding corner_void
-returns-then-void_at c = here _ c.void_at.ensures c.if-void_at.true
-
-pub returns-then-void_at-2 : goal.returns-then-void_at-2
-unfolding corner_void
-returns-then-void_at-2 c =
-    rw (← c.requires.0.sided)
-    (further c.void_at.ensures c.if-void_at.false
-    (here _ c.void_at-2.ensures c.if-void_at-2.true))
-
-pub returns-then-void_at-3 : goal.returns-then-void_at-3
-unfolding corner_void
-returns-then-void_at-3 c =
-    rw (← c.requires.0.sided)
-    (further c.void_at.ensures c.if-void_at.false
-    (further c.void_at-2.ensures c.if-void_at-2.false
-    (here _ c.void_at-3.ensures c.if-void_at-3.true)))
+pub any-requires-clause-callable : goal.any-requires-clause-callable
+any-requires-clause-callable c =
+    serves_from_places (YieldsList-from_slice c.corners.result c.iter.ensures.rest) (λ x q k. search rules)
+    (λ x k l e. let inside = corner_inside c.args.g.m k x.now (rw c.corners.ensures at l) (rw c.corners.ensures at e) in search rules)
 
 pub returns : goal.returns
 unfolding corner_void
 returns c =
-    rw (← c.requires.0.sided)
-    (further c.void_at.ensures c.if-void_at.false
-    (further c.void_at-2.ensures c.if-void_at-2.false
-    (further c.void_at-3.ensures c.if-void_at-3.false (last c.void_at-4.ensures))))
+    let void = λ (p : Point). is_void (sample c.args.g.m c.args.survey.now p) in
+    any_from_yields_List void _ _ _ c.any.ensures.ran (YieldsList-from_slice c.corners.result c.iter.ensures.rest) (λ x b q k. search rules)
+    ∙ ap (list_any void) c.corners.ensures

@@ -5,16 +5,15 @@ use Rattle.grid.proofs.OnGrid.{room}
 use Rattle.survey.proofs.Reading.{read}
 use Rattle.selection.proofs.void_at.Goals as goal
 
-pub offset_bounds-survey-at : goal.offset_bounds-survey-at
-offset_bounds-survey-at c =
-    omega (arith, room c.args.survey.now c.requires.2 c.requires.1 c.place-at.ensures)
+pub offset_bounds-survey-place : goal.offset_bounds-survey-place
+offset_bounds-survey-place c =
+    omega (arith, room c.args.survey.now c.requires.1 c.requires.0 c.place.ensures)
 
-pub bounds-survey-at : goal.bounds-survey-at
-bounds-survey-at c =
-    room c.args.survey.now c.requires.2 c.requires.1 c.place-at.ensures
+pub bounds-survey-place : goal.bounds-survey-place
+bounds-survey-place c = room c.args.survey.now c.requires.1 c.requires.0 c.place.ensures
 
 pub returns : goal.returns
 returns c =
     c.is_void.ensures
     ∙ ap is_void
-    (read c.args.survey.now c.requires.2 c.requires.1 c.place-at.ensures (record { sfits = c.is_void-arg-1.given }))
+    (read c.args.survey.now c.requires.1 c.requires.0 c.place.ensures (record { sfits = c.is_void-arg-1.given }))

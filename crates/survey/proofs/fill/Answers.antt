@@ -1,37 +1,46 @@
 -- `survey::fill` meets its contract: what the sweep leaves has no void, and so is filled.
-use mathlib.Core.Path.{◌≡◌, ◌∙◌, subst, subst⁻¹}
-use mathlib.Core.List.{List}
+use mathlib.Core.Path.{◌≡◌, ◌∙◌, refl, sym, subst⁻¹}
+use mathlib.Core.Bool.{Bool, true, false, ◌||◌}
+use mathlib.Core.List.{List, [], ◌∷◌}
+use Rattle.std.proofs.Common.{rules}
+use Rattle.std.specs.List.{fold}
+use Prim.Native.Nat.{ℕ, zero, suc, ◌<◌}
+use native.Mathlib.Omega.{arith}
 use lib.ListN.{length}
 use lib.IntN.{ℤ}
-use Rattle.grid.specs.Grid.{Sound, samples}
-use Rattle.grid.specs.declared.Grid.{Grid}
+use Rattle.grid.specs.Grid.{is_void, samples}
 use Rattle.survey.specs.Filled.{CornersSurveyed}
-use Rattle.survey.specs.Inner.{Ready, NoVoid}
+use Rattle.survey.specs.Inner.{Ready, Stands, NoVoid}
 use Rattle.survey.proofs.Partial.{partly_none}
 use Rattle.survey.proofs.Sweep.{none_left}
 use Rattle.survey.proofs.fill.Goals as goal
 
 -- what is known of the survey is known of its copy
-copied : {g : Grid} {survey heights : List ℤ} → heights ≡ survey → Sound g → length survey ≡ samples g.m → CornersSurveyed g.m survey →
-    Ready g heights
-copied {g} e sound long corners = subst⁻¹ (Ready g) e (record { sound = sound; long = long; corners = corners })
+copied : {m : ℕ} {survey heights : List ℤ} → heights ≡ survey → length survey ≡ samples m → CornersSurveyed m survey → Ready m heights
+copied {m} e long corners = subst⁻¹ (Ready m) e (record { long = long; corners = corners })
+
+-- where none is found none is there
+none_found : (a : Bool) (ys : List ℤ) → fold (λ any h. any || is_void h) a ys ≡ false → (a ≡ false) × NoVoid ys
+none_found a [] e = (e, λ i l. absurd (omega arith))
+none_found true (y ∷ ys) e = let rest = none_found true ys e in cc
+none_found false (y ∷ ys) e =
+    let rest = none_found (is_void y) ys e in (refl, λ i l. go i l rest.0 rest.1)
+  where
+    go : (i : ℕ) → i < length (y ∷ ys) → is_void y ≡ false → NoVoid ys → Stands (y ∷ ys) i
+    go zero l first rest = first
+    go (suc i) l first rest = rest i (omega arith)
 
 pub returns-then-has_void : goal.returns-then-has_void
 returns-then-has_void c =
-    let s = c in
-    let from = c.copy.ensures in
-    let swept = c.fill_spacings.ensures in
-    record {
-      is = none_left s.args.g.m _ _ s.requires.1 (rw from.same at swept.partly) swept.stand;
-      sixteen = from.sixteen;
-    }
+    let lent = sym c.fill_spacings.ensures.lent in
+    let swept = c.fill_spacings.ensures.swept in
+    let filled = none_left c.args.g.m _ _ c.requires.0 (rw c.copy.ensures at swept.partly) swept.stand in
+    record { is = search (rules, lent) ∙ filled; sixteen = c.has_void.ensures.sixteen }
 
 pub returns-else-has_void : goal.returns-else-has_void
 returns-else-has_void c =
     let s = c in
-    let from = c.copy.ensures in
-    let none = c.has_void.ensures c.if-has_void.false in
     record {
-      is = from.same ∙ none_left s.args.g.m _ _ s.requires.1 (partly_none _ _) (subst NoVoid from.same none);
-      sixteen = from.sixteen;
+      is = s.copy.ensures ∙ none_left s.args.g.m _ _ s.requires.0 (partly_none _ _) (none_found _ _ (sym s.has_void.ensures.any ∙ s.if-has_void.false)).1;
+      sixteen = s.has_void.ensures.sixteen;
     }

@@ -6,10 +6,10 @@ use Rattle.aim.proofs.walk.start.Goals as goal
 
 pub returns-then-goes_first : goal.returns-then-goes_first
 returns-then-goes_first c =
-    rw (c.in_quarters.ensures, c.requires.0.sided)
+    rw (c.in_quarters.ensures, c.args.g.sound.sided)
     (start_first c.args.g.m c.args.x c.args.y (leb-true c.args.y c.args.x (sym c.goes_first.ensures ∙ c.if-goes_first.true)))
 
 pub returns : goal.returns
 returns c =
-    rw (c.in_quarters-2.ensures, c.requires.0.sided)
+    rw (c.in_quarters-2.ensures, c.args.g.sound.sided)
     (start_second c.args.g.m c.args.x c.args.y (leb-false c.args.y c.args.x (sym c.goes_first.ensures ∙ c.if-goes_first.false)))

@@ -8,7 +8,7 @@ use Rattle.grid.specs.declared.points.Point.{Point}
 use Rattle.grid.proofs.Places.{side_small}
 use Rattle.grid.proofs.Grid.place.Goals as goal
 
-bound : (g : Grid) (p : Point) → Sound g → Inside g.m p → (p.y * (g.side + 1) ≤ widest * (widest + 1)) × (p.x ≤ widest)
+bound : (g : Grid) (p : Point) → Sound g.m g.side → Inside g.m p → (p.y * (g.side + 1) ≤ widest * (widest + 1)) × (p.x ≤ widest)
 bound g p s h =
     let n : g.side ≤ widest = omega (arith, s.sided, side_small s.small) in
     let y : p.y ≤ widest = omega (arith, h.north, side_small s.small) in
@@ -17,4 +17,4 @@ bound g p s h =
 
 pub returns : goal.returns
 unfolding place
-returns c = rw c.requires.0.sided
+returns c = rw c.args.self.sound.sided

@@ -4,4 +4,4 @@ use Rattle.grid.proofs.Grid.point.Goals as goal
 
 pub returns : goal.returns
 unfolding point
-returns c = rw c.requires.0.sided
+returns c = rw c.args.self.sound.sided

@@ -12,6 +12,6 @@ pub returns-then-is_outermost : goal.returns-then-is_outermost
 unfolding is_corner
 returns-then-is_outermost c = c.is_outermost-then-is_outermost.ensures ∙ came _ c.is_outermost.ensures c.if-is_outermost.true
 
-pub returns : goal.returns
+pub returns-else-is_outermost : goal.returns-else-is_outermost
 unfolding is_corner
-returns c = came _ c.is_outermost.ensures c.if-is_outermost.false
+returns-else-is_outermost c = c.if-is_outermost.false ∙ came _ c.is_outermost.ensures c.if-is_outermost.false

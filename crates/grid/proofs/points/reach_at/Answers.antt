@@ -22,10 +22,10 @@ sited n m e f = rw (e, f)
 
 pub site_of-t-requires : goal.site_of-t-requires
 site_of-t-requires c =
-    let s = c in (s.requires.0, rw c.point.ensures (point_inside s.args.g.m s.args.i s.requires.1))
+    rw c.point.ensures (point_inside c.args.g.m c.args.i c.requires)
 
 pub reach_of-requires : goal.reach_of-requires
-reach_of-requires c = let s = c in (s.requires.0, small s.args.g.m c.point.result s.requires.0.small c.site_of-t.ensures)
+reach_of-requires c = small c.args.g.m c.point.result c.args.g.sound.small c.site_of-t.ensures
 
 pub returns : goal.returns
 returns c = c.reach_of.ensures ∙ sited _ _ c.site_of-t.ensures c.point.ensures

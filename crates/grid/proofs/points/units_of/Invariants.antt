@@ -1,7 +1,7 @@
 -- `grid::points::units_of` meets its contract. The invariant: the point is s times (a, b), and what is left to find of its
 -- spacing is the spacing of (a, b). Each turn halves both.
 use mathlib.Core.Path.{◌≡◌}
-use Prim.Native.Nat.{ℕ, ◌*◌, ◌^◌}
+use Prim.Native.Nat.{ℕ, ◌-◌, ◌*◌, ◌^◌}
 use Rattle.grid.specs.Points.{level}
 use Rattle.grid.proofs.points.units_of.Given as goal
 
@@ -12,8 +12,5 @@ pub record Halved (m x y left s a b : ℕ) : Type 0 where
   pub size : 2 ^ m ≡ s * 2 ^ left
   pub found : 2 ^ level m x y ≡ s * 2 ^ level left a b
 
-abbrev pub invariant-loop-left : goal.invariant-loop-left
-invariant-loop-left l = Halved l.initial.left l.initial.a l.initial.b l.left l.s l.a l.b
-
-abbrev pub decreases-loop-left : goal.decreases-loop-left
-decreases-loop-left l = l.left
+abbrev pub invariant-loop : goal.invariant-loop
+invariant-loop l = Halved l.fn.g.m l.initial.a l.initial.b (l.fn.g.m - l.counter) l.s l.a l.b

@@ -8,9 +8,10 @@ use borrow.Author.Tests.{le-leb}
 use lib.Dec.{T, eqb, eqb→eq}
 use lib.ListN.{length, get_or}
 use Rattle.grid.specs.Grid.{largest}
-use Rattle.grid.specs.Sizes.{size_of, no_size, size_answer}
+use Rattle.grid.specs.Sizes.{size_of, size_answer}
 use Rattle.grid.specs.declared.sizes.Size.{Size}
-use Rattle.grid.specs.declared.sizes.SizeAnswer.{SizeAnswer}
+use Rattle.grid.specs.declared.refusals.Refusal.{Refusal}
+use Rattle.std.specs.Prelude.{Result, Ok}
 use Rattle.grid.proofs.Table.{both, passes, row}
 use Rattle.grid.proofs.sizes.size_of.Goals as goal
 
@@ -28,7 +29,7 @@ rule m r t =
     }
 
 answer : (rows : List Size) (d : Size) (m : ℕ) → T (passes right 0 rows) → length rows ≡ 8 → m ≤ largest →
-    ◌≡◌ {A = SizeAnswer} (record { refusal = 0; size = get_or rows m d }) (size_answer m)
+    ◌≡◌ {A = Result Size Refusal} (Ok (get_or rows m d)) (size_answer m)
 answer rows d m t l h = rw (le-leb m largest h, rule m (get_or rows m d) (row right rows d m t (omega arith)))
 
 -- the rows as the code has them
@@ -41,4 +42,4 @@ table =
     size 128 16641 32768 ∷ []
 
 pub returns-then-m-le-LARGEST : goal.returns-then-m-le-LARGEST
-returns-then-m-le-LARGEST c = answer table no_size c.args.m tt refl c.if-m-le-LARGEST.true
+returns-then-m-le-LARGEST c = answer table (size 0 0 0) c.args.m tt refl c.if-m-le-LARGEST.true

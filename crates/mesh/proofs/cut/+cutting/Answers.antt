@@ -5,8 +5,8 @@ use Rattle.mesh.proofs.Halves.{three_room, halved, some_left, half_corners, half
 use Rattle.mesh.proofs.cut.+cutting.Goals as goal
 use Rattle.mesh.proofs.cut.+cutting.Goals.{cut_at_centre-then-midpoint_kept, cut_at_centre-else-midpoint_kept, cut_at_edge-then-is_cut+then-even-eq2, cut_at_edge-then-is_cut+else-even-eq2, cut_at_edge-else-is_cut}
 
-pub cut_at_centre-loop-half-init : goal.cut_at_centre-loop-half-init
-cut_at_centre-loop-half-init t c =
+pub cut_at_centre-loop-p-init : goal.cut_at_centre-loop-p-init
+cut_at_centre-loop-p-init t c =
     let p = c.requires in
     let h = halved c.args.left c.args.at c.args.places.now p.0 c.midpoint-centre.ensures p.1 p.3 in
     (omega arith, none_put h)
@@ -15,14 +15,14 @@ pub cut_at_centre-cut_at_edge-next-requires : goal.cut_at_centre-cut_at_edge-nex
 cut_at_centre-cut_at_edge-next-requires t c =
     let p = c.requires in
     let h = halved c.args.left c.args.at c.args.places.now p.0 c.midpoint-centre.ensures p.1 p.3 in
-    let w = c.loop-half in
-    let below = c.loop-half-test.true in (
+    let w = c.loop-p in
+    let below = c.loop-p-test.true in (
       omega (arith, c.decreases, some_left h),
       (
-        half_corners h w.half below,
-        odd_cut h w.half p.2 c.midpoint_kept.ensures ∙ c.if-midpoint_kept.true,
+        half_corners h w.p-index below,
+        odd_cut h w.p-index p.2 c.midpoint_kept.ensures ∙ c.if-midpoint_kept.true,
         omega (arith, p.2, some_left h),
-        half_room h w.half below w.invariant.1,
+        half_room h w.p-index below w.invariant.1,
       ),
     )
 
@@ -30,22 +30,22 @@ pub cut_at_centre-put-next-requires : goal.cut_at_centre-put-next-requires
 cut_at_centre-put-next-requires t c =
     let p = c.requires in
     let h = halved c.args.left c.args.at c.args.places.now p.0 c.midpoint-centre.ensures p.1 p.3 in
-    let w = c.loop-half in
-    let below = c.loop-half-test.true in
-    let k = half_corners h w.half below in
-    let whole = odd_half h w.half p.2 (odd_cut h w.half p.2 c.midpoint_kept.ensures ∙ c.if-midpoint_kept.false) in
-    let room = half_room h w.half below w.invariant.1 in
+    let w = c.loop-p in
+    let below = c.loop-p-test.true in
+    let k = half_corners h w.p-index below in
+    let whole = odd_half h w.p-index p.2 (odd_cut h w.p-index p.2 c.midpoint_kept.ensures ∙ c.if-midpoint_kept.false) in
+    let room = half_room h w.p-index below w.invariant.1 in
     (omega (arith, k), omega (arith, k), omega (arith, k), three_room w.next whole room)
 
-pub cut_at_centre-loop-half-preserved : goal.cut_at_centre-loop-half-preserved
-cut_at_centre-loop-half-preserved t c =
+pub cut_at_centre-loop-p-preserved : goal.cut_at_centre-loop-p-preserved
+cut_at_centre-loop-p-preserved t c =
     let p = c.requires in
     let h = halved c.args.left c.args.at c.args.places.now p.0 c.midpoint-centre.ensures p.1 p.3 in
-    let w = c.loop-half in
-    let whole = odd_half h w.half p.2 in
-    let told = odd_cut h w.half p.2 c.midpoint_kept.ensures in (
-      omega (arith, c.loop-half-test.true),
-      half_put h w.half w.invariant.1
+    let w = c.loop-p in
+    let whole = odd_half h w.p-index p.2 in
+    let told = odd_cut h w.p-index p.2 c.midpoint_kept.ensures in (
+      omega (arith, c.loop-p-test.true),
+      half_put h w.p-index w.invariant.1
           (elim c.if-midpoint_kept.branch [
             | cut_at_centre-then-midpoint_kept x ↦ rw (x.places-is, x.next-is) x.cut_at_edge-next.ensures
             | cut_at_centre-else-midpoint_kept x ↦ rw (whole (told ∙ x.if-midpoint_kept.false), x.places-is, x.next-is) x.put-next.ensures
@@ -56,11 +56,11 @@ pub cut_at_centre-returns : goal.cut_at_centre-returns
 cut_at_centre-returns t c =
     let p = c.requires in
     let h = halved c.args.left c.args.at c.args.places.now p.0 c.midpoint-centre.ensures p.1 p.3 in
-    let w = c.loop-half in
-    both_put h w.half (omega (arith, w.invariant.0, c.loop-half-test.false)) w.invariant.1
+    let w = c.loop-p in
+    both_put h w.p-index (omega (arith, w.invariant.0, c.loop-p-test.false)) w.invariant.1
 
-pub cut_at_edge-loop-half-init : goal.cut_at_edge-loop-half-init
-cut_at_edge-loop-half-init t c =
+pub cut_at_edge-loop-p-init : goal.cut_at_edge-loop-p-init
+cut_at_edge-loop-p-init t c =
     let p = c.requires in
     let h = halved c.args.left c.args.at c.args.places.now p.0 c.midpoint-edge.ensures p.1 p.3 in
     (omega arith, none_put h)
@@ -69,26 +69,26 @@ pub cut_at_edge-last_cuts-next-requires : goal.cut_at_edge-last_cuts-next-requir
 cut_at_edge-last_cuts-next-requires t c =
     let p = c.requires in
     let h = halved c.args.left c.args.at c.args.places.now p.0 c.midpoint-edge.ensures p.1 p.3 in
-    let w = c.loop-half in
-    let below = c.loop-half-test.true in
+    let w = c.loop-p in
+    let below = c.loop-p-test.true in
     let two = c.if-even-eq2.true in (
-      half_corners h w.half below,
+      half_corners h w.p-index below,
       rw two at (sym c.is_cut.ensures ∙ c.if-is_cut.true),
-      rw two at (half_room h w.half below w.invariant.1),
+      rw two at (half_room h w.p-index below w.invariant.1),
     )
 
 pub cut_at_edge-cut_at_centre-next-requires : goal.cut_at_edge-cut_at_centre-next-requires
 cut_at_edge-cut_at_centre-next-requires t c =
     let p = c.requires in
     let h = halved c.args.left c.args.at c.args.places.now p.0 c.midpoint-edge.ensures p.1 p.3 in
-    let w = c.loop-half in
-    let below = c.loop-half-test.true in (
+    let w = c.loop-p in
+    let below = c.loop-p-test.true in (
       omega (arith, c.decreases, some_left h),
       (
-        half_corners h w.half below,
+        half_corners h w.p-index below,
         sym c.is_cut.ensures ∙ c.if-is_cut.true,
         omega (arith, p.2, some_left h),
-        half_room h w.half below w.invariant.1,
+        half_room h w.p-index below w.invariant.1,
       ),
     )
 
@@ -96,22 +96,22 @@ pub cut_at_edge-put-next-requires : goal.cut_at_edge-put-next-requires
 cut_at_edge-put-next-requires t c =
     let p = c.requires in
     let h = halved c.args.left c.args.at c.args.places.now p.0 c.midpoint-edge.ensures p.1 p.3 in
-    let w = c.loop-half in
-    let below = c.loop-half-test.true in
-    let k = half_corners h w.half below in
-    let whole = even_half h w.half p.2 (sym c.is_cut.ensures ∙ c.if-is_cut.false) in
-    let room = half_room h w.half below w.invariant.1 in
+    let w = c.loop-p in
+    let below = c.loop-p-test.true in
+    let k = half_corners h w.p-index below in
+    let whole = even_half h w.p-index p.2 (sym c.is_cut.ensures ∙ c.if-is_cut.false) in
+    let room = half_room h w.p-index below w.invariant.1 in
     (omega (arith, k), omega (arith, k), omega (arith, k), three_room w.next whole room)
 
-pub cut_at_edge-loop-half-preserved : goal.cut_at_edge-loop-half-preserved
-cut_at_edge-loop-half-preserved t c =
+pub cut_at_edge-loop-p-preserved : goal.cut_at_edge-loop-p-preserved
+cut_at_edge-loop-p-preserved t c =
     let p = c.requires in
     let h = halved c.args.left c.args.at c.args.places.now p.0 c.midpoint-edge.ensures p.1 p.3 in
-    let w = c.loop-half in
-    let whole = even_half h w.half p.2 in
+    let w = c.loop-p in
+    let whole = even_half h w.p-index p.2 in
     let told = sym c.is_cut.ensures in (
-      omega (arith, c.loop-half-test.true),
-      half_put h w.half w.invariant.1
+      omega (arith, c.loop-p-test.true),
+      half_put h w.p-index w.invariant.1
           (elim c.if-is_cut.branch [
             | cut_at_edge-then-is_cut+then-even-eq2 x ↦ rw (x.if-even-eq2.true, x.places-is, x.next-is) x.last_cuts-next.ensures
             | cut_at_edge-then-is_cut+else-even-eq2 x ↦ rw (x.places-is, x.next-is) x.cut_at_centre-next.ensures
@@ -123,5 +123,5 @@ pub cut_at_edge-returns : goal.cut_at_edge-returns
 cut_at_edge-returns t c =
     let p = c.requires in
     let h = halved c.args.left c.args.at c.args.places.now p.0 c.midpoint-edge.ensures p.1 p.3 in
-    let w = c.loop-half in
-    both_put h w.half (omega (arith, w.invariant.0, c.loop-half-test.false)) w.invariant.1
+    let w = c.loop-p in
+    both_put h w.p-index (omega (arith, w.invariant.0, c.loop-p-test.false)) w.invariant.1

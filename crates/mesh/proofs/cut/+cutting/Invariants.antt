@@ -10,10 +10,10 @@ decreases-cut_at_centre l = l.left
 abbrev pub decreases-cut_at_edge : goal.decreases-cut_at_edge
 decreases-cut_at_edge l = l.left
 
-abbrev pub invariant-cut_at_centre-loop-half : goal.invariant-cut_at_centre-loop-half
-invariant-cut_at_centre-loop-half l =
-    (l.half ≤ 2) × Put (written (kept_place l.marks) l.left l.l l.a l.r l.centre l.half) l.at l.initial.places l.next l.places
+abbrev pub invariant-cut_at_centre-loop-p : goal.invariant-cut_at_centre-loop-p
+invariant-cut_at_centre-loop-p l =
+    (l.p-index ≤ 2) × Put (written (kept_place l.marks) l.left l.l l.a l.r l.centre l.p-index) l.at l.initial.places l.next l.places
 
-abbrev pub invariant-cut_at_edge-loop-half : goal.invariant-cut_at_edge-loop-half
-invariant-cut_at_edge-loop-half l =
-    (l.half ≤ 2) × Put (written (kept_place l.marks) l.left l.l l.a l.r l.edge l.half) l.at l.initial.places l.next l.places
+abbrev pub invariant-cut_at_edge-loop-p : goal.invariant-cut_at_edge-loop-p
+invariant-cut_at_edge-loop-p l =
+    (l.p-index ≤ 2) × Put (written (kept_place l.marks) l.left l.l l.a l.r l.edge l.p-index) l.at l.initial.places l.next l.places

@@ -13,8 +13,8 @@ put-requires c =
     let k = c.requires.0 in
     (omega arith, omega arith, omega arith, three_room c.args.at whole c.requires.2)
 
-pub returns : goal.returns
-returns c =
+pub returns-else-is_cut : goal.returns-else-is_cut
+returns-else-is_cut c =
     let s = c.args in
     let whole =
     even_whole (kept_place s.marks.now) s.left s.l s.a s.r (sym c.is_cut.ensures ∙ c.if-is_cut.false) c.requires.1 in

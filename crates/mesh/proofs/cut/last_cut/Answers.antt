@@ -37,16 +37,16 @@ returns-then-midpoint_kept c =
     one_cut (kept_place s.marks.now) s.l s.a s.r c.midpoint-edge.ensures (sym c.midpoint_kept.ensures ∙ c.if-midpoint_kept.true) in
     rw halves (put_both c.put-next.ensures c.put.ensures)
 
-pub put-requires-2 : goal.put-requires-2
-put-requires-2 c =
+pub put-requires-else-midpoint_kept : goal.put-requires-else-midpoint_kept
+put-requires-else-midpoint_kept c =
     let s = c.args in
     let whole = odd_whole (kept_place s.marks.now) 1 s.l s.a s.r (sym c.midpoint_kept.ensures ∙ c.if-midpoint_kept.false) refl in
     let p = c.requires in
     let k = p.0.ends in
     (omega (arith, k), omega (arith, k, p.0.apex), omega (arith, k), three_room _ whole p.1)
 
-pub returns : goal.returns
-returns c =
+pub returns-else-midpoint_kept : goal.returns-else-midpoint_kept
+returns-else-midpoint_kept c =
     let s = c.args in
     let whole = odd_whole (kept_place s.marks.now) 1 s.l s.a s.r (sym c.midpoint_kept.ensures ∙ c.if-midpoint_kept.false) refl in
-    rw whole c.put-2.ensures
+    rw whole c.put-else-midpoint_kept.ensures

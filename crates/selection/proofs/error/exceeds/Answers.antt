@@ -3,18 +3,15 @@
 use Rattle.std.proofs.Common.{◌≡◌, ℕ, suc, ◌+◌, ◌-◌, ◌*◌, ◌%◌, ◌^◌, ◌<◌, ◌≤◌, ltb, ℤ, pos, negsuc, ◌+ℤ◌, ◌-ℤ◌, ◌*ℤ◌, nat_abs, sym, refl, ap, ◌∙◌, arith, w16, w32, SFits, to_z, of_z, le-ltb, lt-ltb}
 use native.Mathlib.Decide.{dec_lt}
 use Rattle.selection.specs.Inner.{farthest}
-use Rattle.selection.proofs.Exact.{Exact, literal, handed, held, sum, difference, times}
+use Rattle.selection.proofs.Exact.{Exact, fits, literal, handed, held, sum, difference, times}
 use Rattle.selection.proofs.error.exceeds.Goals as goal
 
--- a number that the code holds in 32 bits, and one of 16 bits that it widens
+-- a number that the code holds in 32 bits
 abbrev in32 : ℤ → ℤ
 in32 z = to_z w32 (of_z w32 z)
 
-abbrev wide : ℤ → ℤ
-wide z = in32 (to_z w16 (of_z w16 z))
-
-widened : {z : ℤ} → SFits w16 z → Exact (wide z) z 32768
-widened f = held (handed f) (omega arith)
+widened : {z v : ℤ} → SFits w16 z → v ≡ to_z w16 (of_z w16 z) → Exact v z 32768
+widened f e = record { same = e ∙ (handed f).same; size = (handed f).size }
 
 -- raised by as far as it may lie from 0, it is no longer below 0
 abbrev lift : ℤ → ℕ
@@ -46,20 +43,20 @@ within limit (negsuc n) {r} l k h e = go (dec_lt limit (suc n))
     go (yes d) = lt-ltb (2 * limit) r (omega (arith, e)) ∙ sym (lt-ltb limit (suc n) d)
     go (no d) = le-ltb (2 * limit) r (omega (arith, e)) ∙ sym (le-ltb limit (suc n) (omega arith))
 
--- a height and its ends' heights, each of 16 bits
-module _ {h a b : ℤ} (fh : SFits w16 h) (fa : SFits w16 a) (fb : SFits w16 b) where
-  twice : Exact (pos 2 *ℤ wide h) (pos 2 *ℤ h) 65536
-  twice = times 2 (widened fh)
+-- a height and its ends' heights, each of 16 bits, widened to v, w and x
+module _ {h a b v w x : ℤ} (eh : Exact v h 32768) (ea : Exact w a 32768) (eb : Exact x b 32768) where
+  twice : Exact (pos 2 *ℤ in32 v) (pos 2 *ℤ h) 65536
+  twice = times 2 (held eh (omega arith))
 
-  both : Exact (wide a +ℤ wide b) (a +ℤ b) 65536
-  both = sum (widened fa) (widened fb)
+  both : Exact (in32 w +ℤ in32 x) (a +ℤ b) 65536
+  both = sum (held ea (omega arith)) (held eb (omega arith))
 
   -- the error as it is meant, and as the code has it
   abbrev meant : ℤ
   meant = pos 2 *ℤ h -ℤ (a +ℤ b)
 
   abbrev had : ℤ
-  had = in32 (pos 2 *ℤ wide h) -ℤ in32 (wide a +ℤ wide b)
+  had = in32 (pos 2 *ℤ in32 v) -ℤ in32 (in32 w +ℤ in32 x)
 
   error : Exact had meant farthest
   error = difference (held twice (omega arith)) (held both (omega arith))
@@ -70,8 +67,27 @@ module _ {h a b : ℤ} (fh : SFits w16 h) (fa : SFits w16 a) (fb : SFits w16 b) 
   value : in32 (in32 had +ℤ pos farthest) ≡ pos (lift meant)
   value = (held raised (omega arith)).same ∙ lifted meant error.size
 
+pub overflow_sub-error : goal.overflow_sub-error
+overflow_sub-error c =
+    let f = c.ranges in fits (error (widened f.h c.from.ensures) (widened f.a c.from-2.ensures) (widened f.b c.from-3.ensures)) (omega arith)
+
+pub overflow_add-raised : goal.overflow_add-raised
+overflow_add-raised c =
+    let f = c.ranges in fits (raised (widened f.h c.from.ensures) (widened f.a c.from-2.ensures) (widened f.b c.from-3.ensures)) (omega arith)
+
+pub overflow_cast-raised-2 : goal.overflow_cast-raised-2
+overflow_cast-raised-2 c =
+    let f = c.ranges in
+    let h = widened f.h c.from.ensures in
+    let a = widened f.a c.from-2.ensures in
+    let b = widened f.b c.from-3.ensures in
+    rw (value h a b) (tt, record { fits = omega (arith, lift_most (meant h a b) (error h a b).size) })
+
 pub returns : goal.returns
 returns c =
     let f = c.ranges in
-    within c.args.limit (meant f.h f.a f.b) c.requires (error f.h f.a f.b).size c.wrapping_sub_u32-together.type_inv
-    (c.wrapping_sub_u32-together.ensures.value ∙ ap nat_abs (value f.h f.a f.b))
+    let h = widened f.h c.from.ensures in
+    let a = widened f.a c.from-2.ensures in
+    let b = widened f.b c.from-3.ensures in
+    within c.args.limit (meant h a b) c.requires (error h a b).size c.wrapping_sub_u32-together.type_inv
+    (c.wrapping_sub_u32-together.ensures.value ∙ ap nat_abs (value h a b))

@@ -1,10 +1,8 @@
--- `selection::marks::count` meets its contract. The invariant: what is before this place is counted.
-use Rattle.std.proofs.Common.{◌≡◌, ◌-◌, ◌≤◌, length, take}
-use Rattle.selection.specs.Inner.{counted}
+-- `selection::marks::count` meets its contract. The invariant: what was counted and what the rest counts is the whole count.
+use Rattle.std.proofs.Common.{◌≡◌}
+use Rattle.std.specs.Slice.Iter.{chunks_rest, chunks_size}
+use Rattle.selection.specs.Inner.{added, counted, byteful}
 use Rattle.selection.proofs.marks.count.Given as goal
 
-abbrev pub invariant-loop-from : goal.invariant-loop-from
-invariant-loop-from l = (l.from ≤ length l.marks) × (l.sum ≡ counted (take l.from l.marks))
-
-abbrev pub decreases-loop-from : goal.decreases-loop-from
-decreases-loop-from l = length l.marks - l.from
+abbrev pub invariant-loop-few : goal.invariant-loop-few
+invariant-loop-few l = (added l.sum (counted (chunks_rest l.few-iterator)) ≡ counted l.marks) × (chunks_size l.few-iterator ≡ byteful)

@@ -1,11 +1,7 @@
 -- `selection::marks::mark_all` meets its contract. The invariant: below this spacing every rank is final.
-use Rattle.std.proofs.Common.{◌-◌}
-use Rattle.selection.specs.Inner.{mark_over}
-use Rattle.selection.proofs.Ranks.{Spacings}
+use Rattle.std.proofs.Common.{◌*◌}
+use Rattle.selection.specs.Inner.{mark_over, Final, Swept}
 use Rattle.selection.proofs.marks.mark_all.Given as goal
 
-abbrev pub invariant-loop-s : goal.invariant-loop-s
-invariant-loop-s l = Spacings l.g.m (mark_over l.g.m l.survey l.limit) l.marks l.s
-
-abbrev pub decreases-loop-s : goal.decreases-loop-s
-decreases-loop-s l = l.g.side - l.s
+abbrev pub invariant-loop-k : goal.invariant-loop-k
+invariant-loop-k l = Final l.grid.m (mark_over l.grid.m l.survey l.limit) (Swept l.grid.m (2 * l.k) 0) l.marks
