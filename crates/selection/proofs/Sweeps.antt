@@ -167,9 +167,6 @@ module _ {m s : ℕ} (w : Power m s) where
       positive : 0 < s
       positive = rw w.power (pow_pos w.exponent)
 
-  pub edges_begin : {f : Point → ℕ} {marks : List ℕ} → Final m f (Swept m (edge_rank m s) 0) marks → EdgeRows m s f marks 0
-  edges_begin final = record { row = 0; times = sym (mul-zero s); even = refl; inside = omega arith; final = final }
-
   -- there is no centre in an even row
   no_centre : {f : Point → ℕ} {marks : List ℕ} (c : ℕ) → c % 2 ≡ 0 → Final m f (Swept m (centre_rank m s) c) marks →
       Final m f (Swept m (centre_rank m s) (suc c)) marks

@@ -3,18 +3,11 @@ use Rattle.std.proofs.Common.{rules, ap, ◌∙◌}
 use Rattle.std.specs.List.{list_any}
 use Rattle.std.proofs.lemmas.Iterator.{YieldsList-from_slice}
 use Rattle.std.proofs.lemmas.Iterator.Search.{any_from_yields_List}
-use Rattle.std.proofs.lemmas.Iterator.Adapters.{serves_from_places}
 use Rattle.grid.specs.Grid.{is_void}
 use Rattle.grid.specs.declared.points.Point.{Point}
 use Rattle.survey.specs.Filled.{sample}
 use Rattle.selection.specs.Selected.{corner_void}
-use Rattle.selection.proofs.Corners.{corner_inside}
 use Rattle.selection.proofs.corner_void.Goals as goal
-
-pub any-requires-clause-callable : goal.any-requires-clause-callable
-any-requires-clause-callable c =
-    serves_from_places (YieldsList-from_slice c.corners.result c.iter.ensures.rest) (λ x q k. search rules)
-    (λ x k l e. let inside = corner_inside c.args.g.m k x.now (rw c.corners.ensures at l) (rw c.corners.ensures at e) in search rules)
 
 pub returns : goal.returns
 unfolding corner_void

@@ -1,12 +1,9 @@
 -- `selection::sweep::Sweep::mark_edges` meets its contract. The invariant: every row of edge points below this one is final.
 use Rattle.std.proofs.Common.{refl, arith}
 use Rattle.selection.proofs.Along.{row_asks, row_gives}
-use Rattle.selection.proofs.Sweeps.{power, asks, gives, edges_begin, edge_east, edge_north, edge_on, edges_end, last_row, edges_done}
+use Rattle.selection.proofs.Sweeps.{power, asks, gives, edge_east, edge_north, edge_on, edges_end, last_row, edges_done}
 use Rattle.selection.proofs.sweep.Sweep.mark_edges.Goals as goal
 use Rattle.selection.proofs.sweep.Sweep.mark_edges.Goals.{else-loop-y-test, then-loop-y-test+else-y-step-n}
-
-pub loop-y-init : goal.loop-y-init
-loop-y-init c = edges_begin (power c.args.self.now.spaced) c.requires
 
 pub mark_run-requires : goal.mark_run-requires
 mark_run-requires c =

@@ -1,9 +1,6 @@
 -- `selection::sweep::Sweep::mark_run` meets its contract. The invariant: of the run every column before this one is final.
-use Rattle.std.proofs.Common.{arith}
-use Rattle.grid.proofs.Places.{side_small}
 use Rattle.grid.proofs.OnGrid.{room}
-use Rattle.grid.proofs.ByKind.{spread, sited_small}
-use Rattle.selection.proofs.Strides.{stepped}
+use Rattle.grid.proofs.ByKind.{spread}
 use Rattle.selection.proofs.Along.{begins, sited_here, marked, beyond}
 use Rattle.selection.proofs.sweep.Sweep.mark_run.Goals as goal
 
@@ -34,21 +31,3 @@ loop-x-preserved g c =
 pub returns : goal.returns
 returns g c =
     let l = rw c.args.self.now.grid.sound.sided at c.loop-x-test.false in beyond c.requires.0 c.loop-x.invariant l
-
-pub overflow_mul-step : goal.overflow_mul-step
-overflow_mul-step g c =
-    let w = sited_small c.requires.0 c.args.self.now.grid.sound.small in
-    let far = stepped c.args.kind w.0 in
-    rw c.requires.3 (record { fits = omega (arith, w.1, far.1) })
-
-pub overflow_add-x : goal.overflow_add-x
-overflow_add-x g c =
-    let d = c.args.self.now.grid in
-    let w = sited_small c.requires.0 d.sound.small in
-    let far = stepped c.args.kind w.0 in
-    rw c.requires.3 (record { fits = omega (arith, w.1, far.1, c.loop-x-test.true, d.sound.sided, side_small d.sound.small) })
-
-pub loop-x-smaller : goal.loop-x-smaller
-loop-x-smaller g c =
-    let far = stepped c.args.kind (sited_small c.requires.0 c.args.self.now.grid.sound.small).0 in
-    rw c.requires.3 (omega (arith, far.0, c.loop-x-test.true))
