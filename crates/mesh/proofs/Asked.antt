@@ -17,7 +17,7 @@ use Rattle.mesh.specs.Closed.{kept_by}
 use Rattle.std.specs.Bool.{Decides}
 use Rattle.mesh.specs.Inner.{BackedAlong, Stride, unit, Line, CentreRow, Across, LineClosed}
 use Rattle.mesh.proofs.Strides.{unit_positive, Looked, edge_looked, centre_looked, stride, told_stride}
-use Rattle.mesh.proofs.Lines.{Told, across_on, across_by, line_told}
+use Rattle.mesh.proofs.Lines.{Told, across_most, across_on, across_by, line_told}
 
 unit_small : (m : ℕ) (t : Bool) → unit m t ≤ side m + 1
 unit_small m true = omega arith
@@ -90,6 +90,16 @@ module _ (v : GoodMarks) {n : ℕ} (sided : n ≡ side v.grid.m) {s : ℕ} (w : 
     pub edge_told : {r : Bool} → Decides r (BackedAlong marks (c * b + s * u) (c * b + n * u) (2 * (s * u)) before after) →
         Decides r (LineClosed m (kept_by m marks) s turned c)
     edge_told t = line_told w (kept_by m marks) turned c (told_stride w turned c 1 2 from_is to_is step_is v.whole looked t)
+
+  -- s rows on
+  pub ups_small : (s ≤ s * (n + 1)) × (s * (n + 1) ≤ samples largest)
+  ups_small = (le-mul_of_pos_right s (omega arith), units_small true v.grid.sound.small spaced_small.2 (rw sided))
+
+  -- and those of a row of centres
+  pub row_small : {y d : ℕ} → CentreRow m s y d → (y * (n + 1) ≤ samples largest) × (s * (n + 1) ≤ samples largest) × (d ≤ 2 * (s * (n + 1)))
+  row_small row =
+      let ups : n + 1 ≡ unit m true = rw sided in
+      (units_small true v.grid.sound.small row.line.inside ups, ups_small.1, rw sided (across_most row.across))
 
   pub other_across : {y d : ℕ} (row : CentreRow m s y d) → Across (side m) s (3 + row.line.number) (2 * (s * (n + 1)) - d)
   other_across row = rw sided (across_on (omega arith) row.across)

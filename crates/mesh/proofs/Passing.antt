@@ -1,7 +1,7 @@
 -- Tests asked in turn, with the answer false at the first that fails, are their conjunction; so is the test of the points on a line
 -- near c: below and above, each where it lies inside. r is what the code was told of a test t.
-use mathlib.Core.Path.{◌≡◌, refl, sym, ◌∙◌}
-use mathlib.Core.Bool.{Bool, true, false, cond, ◌&&◌, and-true}
+use mathlib.Core.Path.{◌≡◌, refl, sym, ap, ◌∙◌}
+use mathlib.Core.Bool.{Bool, true, false, cond, not, ◌&&◌, and-true, not-not}
 use mathlib.Core.List.{[], ◌∷◌, ◌++◌}
 use Prim.Native.Nat.{ℕ, ◌+◌, ◌-◌}
 use lib.Dec.{leb}
@@ -16,6 +16,14 @@ fails u e h = rw (sym e ∙ h)
 -- this one does not: the answer is the others'
 pub passes : {r t u v : Bool} → r ≡ t → r ≡ true → v ≡ u → v ≡ (t && u)
 passes e h w = rw (sym e ∙ h) w
+
+-- the last one is the answer
+pub last : {r t : Bool} → r ≡ t → r ≡ (t && true)
+last {t = t} e = e ∙ sym (and-true t)
+
+-- told of the test's denial
+pub denied : {r t : Bool} → not r ≡ t → r ≡ not t
+denied {r} e = sym (not-not r) ∙ ap not e
 
 module _ (f : Point → Bool) (turned : Bool) (b n s c : ℕ) where
   abbrev All : Bool

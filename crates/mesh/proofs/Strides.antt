@@ -231,6 +231,9 @@ module _ {marks : List ℕ} {from step before after : ℕ} where
   gone_first = record { steps = 0; place = omega (arith, mul-zero step); backed = λ k l. absurd (omega arith) }
 
   module _ {i : ℕ} (here : Gone marks from step before after i) where
+    pub gone_room : {to : ℕ} → Stride marks from to step before after → i < to → (before ≤ i) × (i + after < length marks)
+    gone_room s l = rw here.place (s.inside here.steps (rw here.place at l))
+
     pub gone_on_lem : Backed marks before after i → Gone marks from step before after (i + step)
     gone_on_lem b =
         record {
@@ -242,6 +245,9 @@ module _ {marks : List ℕ} {from step before after : ℕ} where
         go : (k : ℕ) → k < suc here.steps → Dec (k < here.steps) → Backed marks before after (from + step * k)
         go k l (yes d) = here.backed k d
         go k l (no d) = let e : here.steps ≡ k = omega arith in rw (here.place, e) at b
+
+    pub gone_not : {to : ℕ} → i < to → (Backed marks before after i → ⊥) → Decides false (BackedAlong marks from to step before after)
+    gone_not l n = (λ e. absurd (false≢true e), λ all. absurd (n (rw here.place (all here.steps (rw here.place at l)))))
 
     pub gone_last : {to : ℕ} → to ≤ i → Decides true (BackedAlong marks from to step before after)
     gone_last {to} l = (λ e k h. here.backed k (go k h (dec_lt k here.steps)), λ all. refl)

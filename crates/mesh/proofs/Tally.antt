@@ -18,7 +18,8 @@ use lib.Pow.{pow_pos}
 use Rattle.grid.specs.Grid.{side, samples, largest, widest, at, place, point, entries, on_grid}
 use Rattle.grid.specs.Points.{outermost, is_corner}
 use Rattle.grid.specs.declared.points.Point.{Point}
-use Rattle.grid.proofs.Places.{side_small, point_place}
+use Rattle.grid.specs.declared.Grid.{Grid}
+use Rattle.grid.proofs.Places.{side_small, samples_small, point_place}
 use Rattle.selection.specs.Marks.{count}
 use Rattle.selection.proofs.Corners.{at_east}
 use Rattle.selection.proofs.Counts.{one_most}
@@ -45,7 +46,7 @@ twice true n = omega arith
 twice false n = refl
 
 -- a row but for its east end: the west end and those between
-kept_west : (marks : List ℕ) (at n : ℕ) → 0 < n → kept_from marks at n ≡ kept_once marks at + kept_between_ends marks at n
+pub kept_west : (marks : List ℕ) (at n : ℕ) → 0 < n → kept_from marks at n ≡ kept_once marks at + kept_between_ends marks at n
 kept_west marks at zero some = absurd (omega arith)
 kept_west marks at (suc n) some =
     let one : suc at ≡ at + 1 = omega arith in
@@ -148,13 +149,25 @@ adds_most m marks i (suc n) =
 rows : (m : ℕ) → samples m ≡ side m * (side m + 1) + (side m + 1)
 rows m = omega (arith, add-mul (side m) 1 (side m + 1), one-mul (side m + 1))
 
+module _ (marks : List ℕ) (at n : ℕ) (wide : n ≤ widest) where
+  pub ends_most_lem : {k : ℕ} → k ≡ kept_between_ends marks at n → k ≤ widest
+  ends_most_lem e = omega (arith, kept_most marks (at + 1) (n - 1))
+
+  pub row_most_lem : {west east k : ℕ} → west ≡ kept_once marks at → east ≡ kept_once marks (at + n) → k ≡ kept_between_ends marks at n →
+      west + east + 2 * k ≤ 2 + 2 * widest
+  row_most_lem ew ee ek = omega (arith, one_most (kept_place marks at) ew, one_most (kept_place marks (at + n)) ee, ends_most_lem ek)
+
+-- as the code asks, with its own N
+pub grid_small : (g : Grid) → (g.side ≤ widest) × (g.side * (g.side + 1) ≤ samples largest)
+grid_small g = rw g.sound.sided (side_small g.sound.small, omega (arith, rows g.m, samples_small g.sound.small))
+
 module _ (marks : List ℕ) (at m : ℕ) (small : m ≤ largest) where
   pub ends_most : {k : ℕ} → k ≡ kept_between_ends marks at (side m) → k ≤ widest
-  ends_most e = omega (arith, kept_most marks (at + 1) (side m - 1), side_small small)
+  ends_most = ends_most_lem marks at (side m) (side_small small)
 
   pub row_most : {west east k : ℕ} → west ≡ kept_once marks at → east ≡ kept_once marks (at + side m) → k ≡ kept_between_ends marks at (side m) →
       west + east + 2 * k ≤ 2 + 2 * widest
-  row_most ew ee ek = omega (arith, one_most (kept_place marks at) ew, one_most (kept_place marks (at + side m)) ee, ends_most ek)
+  row_most = row_most_lem marks at (side m) (side_small small)
 
 module _ (m : ℕ) (marks : List ℕ) where
   counted_first_lem : {at triangles south north : ℕ} → at ≡ side m + 1 → south ≡ kept_between_ends marks 0 (side m) →

@@ -89,7 +89,7 @@ module _ {m s : ℕ} {p : Point} {k : Kind} (start : Sited m p k s) where
           (λ q h i.
           let b = dependent_below m (at east p.y) q there.inside (inner there) i in swept (finer (omega (arith, b.2, rank_here))))
 
-      goes_on : {v : ℕ} → v ≡ f (at east p.y) → Along m s f p k (set marks (place m (at east p.y)) v) (east + stride k * s)
+      pub goes_on : {v : ℕ} → v ≡ f (at east p.y) → Along m s f p k (set marks (place m (at east p.y)) v) (east + stride k * s)
       goes_on e =
           record {
             column = now.column + stride k;
@@ -124,7 +124,7 @@ rising_odd (rise oa ob t) = oa
 falling_odd : {a b : ℕ} → Way a b Falling → a % 2 ≡ 1
 falling_odd (fall oa ob t) = oa
 
-centre_odd : {a b : ℕ} {k : Kind} → Way a b k → CentreKind k → a % 2 ≡ 1
+pub centre_odd : {a b : ℕ} {k : Kind} → Way a b k → CentreKind k → a % 2 ≡ 1
 centre_odd w (inl e) = rising_odd (rw e at w)
 centre_odd w (inr e) = falling_odd (rw e at w)
 

@@ -1,7 +1,9 @@
 -- Marks that are final at some points: one more is when it is written, and when all are, the list is one mark for each sample.
-use Rattle.std.proofs.Common.{◌≡◌, ℕ, ◌⊎◌, List, get_or, set, sym, refl, ap, ◌∙◌, ⊎_elim, length-set, get_or-set_other, get_or-set_same}
+use Rattle.std.proofs.Common.{◌≡◌, ℕ, ◌⊎◌, List, [], ◌∷◌, length, get_or, set, sym, refl, ap, ◌∙◌, ⊎_elim, length-set, get_or-set_other, get_or-set_same}
+use mathlib.Core.List.Memᴰ
+use mathlib.Core.List.{Memᴰ}
 use native.Mathlib.Decide.{ℕ_discrete}
-use Rattle.grid.specs.Grid.{Inside, place, point, on_grid}
+use Rattle.grid.specs.Grid.{Inside, samples, place, point, on_grid}
 use Rattle.grid.specs.declared.points.Point.{Point}
 use Rattle.grid.proofs.Places.{point_place, place_point, point_inside}
 use Rattle.grid.proofs.OnGrid.{room, is_on_grid}
@@ -39,3 +41,11 @@ module _ {m : ℕ} {f : Point → ℕ} {done : Point → Type 0} {marks : List �
       (λ i l.
       let h = point_inside m i l in
       ap (λ (n : ℕ). get_or marks n 0) (sym (place_point m i)) ∙ final.right (point m i) h (all (point m i) h))
+
+-- at the points of a list, one more in front
+pub final_listed : {m : ℕ} {f : Point → ℕ} {l : List Point} {marks : List ℕ} (q : Point) {v : ℕ} →
+    Final m f (λ p. Memᴰ p l) marks → Inside m q → v ≡ f q → Final m f (λ p. Memᴰ p (q ∷ l)) (set marks (place m q) v)
+final_listed q final i e = final_set final q i e (λ p h k. Memᴰ.cases_cons k)
+
+pub final_none : (m : ℕ) (f : Point → ℕ) (marks : List ℕ) → length marks ≡ samples m → Final m f (λ p. Memᴰ p []) marks
+final_none m f marks n = record { long = n; right = λ p h k. absurd (Memᴰ.not-nil k) }

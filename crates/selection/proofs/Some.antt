@@ -1,7 +1,7 @@
 -- Some member of a list: what `some` finds is a member, a member it asks for is found, and it asks the members alone.
 -- Each by the list's first member and the rest.
-use Rattle.std.proofs.Common.{◌≡◌, Bool, true, false, ◌||◌, List, [], ◌∷◌, refl, ⊎_elim}
-use mathlib.Core.Bool.{false≢true, or-true}
+use Rattle.std.proofs.Common.{◌≡◌, Bool, true, false, ◌||◌, List, [], ◌∷◌, ◌++◌, sym, refl, ⊎_elim}
+use mathlib.Core.Bool.{false≢true, or-true, or_assoc}
 use mathlib.Core.List.Memᴰ
 use mathlib.Core.List.{Memᴰ}
 use Rattle.selection.specs.Kept.{some}
@@ -33,3 +33,7 @@ module _ {A : Type 0} where
     in_some [] i found = absurd (Memᴰ.not-nil i)
     in_some (a ∷ l) i found =
         ⊎_elim (λ e. rw (← e, found)) (λ k. rw (in_some l k found) (or-true (f a))) (Memᴰ.cases_cons i)
+
+    pub some_append : (l k : List A) → some f (l ++ k) ≡ (some f l || some f k)
+    some_append [] k = refl
+    some_append (a ∷ l) k = rw (some_append l k) (sym (or_assoc (f a) (some f l) (some f k)))

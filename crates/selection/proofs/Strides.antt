@@ -1,16 +1,30 @@
 -- A run of points of one kind along a row, every second column or every fourth: what is done before it begins, from one of its columns
 -- to the next, and when it ends.
-use Rattle.std.proofs.Common.{◌≡◌, ℕ, suc, ◌+◌, ◌*◌, ◌%◌, ◌^◌, ◌<◌, ◌≤◌, ◌⊎◌, sym, ◌∙◌, inl, inr, arith}
+use Rattle.std.proofs.Common.{◌≡◌, ℕ, suc, ◌+◌, ◌*◌, ◌%◌, ◌^◌, ◌<◌, ◌≤◌, ◌⊎◌, sym, ap, ◌∙◌, inl, inr, arith}
 use native.Mathlib.Decide.{dec_lt, ℕ_discrete}
 use Rattle.grid.specs.Grid.{side, Inside}
 use Rattle.grid.specs.Points.{units, rank}
 use Rattle.grid.specs.declared.points.Point.{Point}
 use Rattle.grid.specs.declared.points.Kind.{Kind}
 use Rattle.grid.specs.declared.points.Kind.TheVariants.{Corner, EastWest, NorthSouth, Rising, Falling}
+use Rattle.grid.specs.Inner.{EdgeKind, CentreKind, next_kind}
 use Rattle.grid.proofs.Around.{Way, row, column, rise, fall}
 use Rattle.grid.proofs.Placed.{Placed}
 use Rattle.selection.specs.Inner.{Swept, corner, finer, row as rows, stride, Ran, swept, earlier, along}
 use Rattle.selection.proofs.Swept.{alike, same_there, column_inside}
+
+-- two units on along a row the kind of an edge point is the same, and a centre's ends lie on the other diagonal
+edge_stays : {k : Kind} → EdgeKind k → next_kind k ≡ k
+edge_stays (inl e) = rw e
+edge_stays (inr e) = rw e
+
+centre_returns : {k : Kind} → CentreKind k → next_kind (next_kind k) ≡ k
+centre_returns (inl e) = rw e
+centre_returns (inr e) = rw e
+
+pub centre_turns : {k : Kind} → CentreKind k → CentreKind (next_kind k)
+centre_turns (inl e) = inr (ap next_kind e)
+centre_turns (inr e) = inl (ap next_kind e)
 
 -- numbers told apart by n, which is even
 pub record Steps (n : ℕ) : Type 0 where

@@ -154,6 +154,9 @@ module _ {m s : ℕ} (w : Power m s) where
     pub edges_end : side m ≤ y → EdgeRows m s f marks (side m)
     edges_end l = let e : y ≡ side m = omega (arith, here.inside) in rw e at here
 
+  pub edges_begin : {f : Point → ℕ} {marks : List ℕ} → Final m f (Swept m (edge_rank m s) 0) marks → EdgeRows m s f marks 0
+  edges_begin final = record { row = 0; times = sym (mul-zero s); even = refl; inside = omega arith; final = final }
+
   pub last_row : Start m s (edge_rank m s) (2 * half) (at s (side m)) EastWest
   last_row = east_start (omega arith) wide (omega arith)
 

@@ -93,6 +93,10 @@ module _ (h : Handed) where
         e,
       )))
 
+  answer_refusal : {r : Stripped} → r ≡ answer_of h → r.refusal ≡ refusal h
+  unfolding answer_of
+  answer_refusal e = ap (λ (a : Stripped). a.refusal) e
+
   refused : {n : ℕ} → refusal h ≡ n → n ≢ accepted → n ≢ no_room → Refused h (answering n 0)
   unfolding answer_of
   refused {n} e taken other =

@@ -32,7 +32,7 @@ ran_append s [] us = refl
 ran_append s (t ∷ ts) us = ran_append (taken t s).next ts us
 
 -- a triangle that is not cut is passed as it stands
-whole : (marks : List ℕ) (t : Passage) → is_cut (kept_place marks) t.left t.l t.r ≡ false → passages_of marks t ≡ t ∷ []
+pub whole : (marks : List ℕ) (t : Passage) → is_cut (kept_place marks) t.left t.l t.r ≡ false → passages_of marks t ≡ t ∷ []
 unfolding passages
 whole marks t out = go t.left out
   where
@@ -50,7 +50,7 @@ module _ (marks : List ℕ) (t : Passage) (is : is_cut (kept_place marks) t.left
       go zero is = absurd (true≢false (sym is))
       go (suc k) is = omega arith
 
-  halves : passages_of marks t ≡ passages_of marks (first_half t) ++ passages_of marks (second_half t)
+  pub halves : passages_of marks t ≡ passages_of marks (first_half t) ++ passages_of marks (second_half t)
   unfolding passages
   halves = go t.left is
     where
@@ -114,11 +114,38 @@ bounded kept (suc k) l a r comes goes s =
     by true ts us p q = omega (arith, pow-suc 2 k, bounded_both s ts us p q)
     by false ts us p q = omega (arith, pow-suc 2 k, pow_pos k, bounded_one (passage l a r (suc k) comes goes) s)
 
+-- behind a triangle come into by a leg, the newer place is at the next corner; so behind what a cut one leads to
+gone_near : (t : Passage) (s : Running) (turn : Bool) → turns_by t.goes s.near ≡ turn → (gone_on t (shared_by t.goes t) t.r true s).next.near ≡ true
+gone_near t s true e = rw e
+gone_near t s false e = rw e
+
+leg_near : (kept : ℕ → Bool) (k l a r : ℕ) (goes : Option Side) (s : Running) → (ran s (passages kept k l a r (Some Leg) goes)).near ≡ true
+unfolding passages ran
+leg_near kept zero l a r goes s = gone_near (passage l a r zero (Some Leg) goes) s _ refl
+leg_near kept (suc k) l a r goes s = by (kept (midplace l r)) (λ x. leg_near kept k a (midplace l r) r (across goes) x)
+  where
+    ts : List Passage
+    ts = passages kept k l (midplace l r) a (Some Longest) (Some Leg)
+
+    us : List Passage
+    us = passages kept k a (midplace l r) r (Some Leg) (across goes)
+
+    by : (cut : Bool) → ((x : Running) → (ran x us).near ≡ true) → (ran s (cond cut (ts ++ us) (passage l a r (suc k) (Some Leg) goes ∷ []))).near ≡ true
+    by true second = ap (λ (x : Running). x.near) (ran_append s ts us) ∙ second (ran s ts)
+    by false second = gone_near (passage l a r (suc k) (Some Leg) goes) s _ refl
+
+-- a cut triangle is left so
+pub cut_near : (marks : List ℕ) (t : Passage) (s : Running) → is_cut (kept_place marks) t.left t.l t.r ≡ true → (ran s (passages_of marks t)).near ≡ true
+cut_near marks t s is =
+    ap (λ (list : List Passage). (ran s list).near) (halves marks t is)
+    ∙ ap (λ (x : Running). x.near) (ran_append s (passages_of marks (first_half t)) (passages_of marks (second_half t)))
+    ∙ leg_near (kept_place marks) (t.left - 1) t.a (midplace t.l t.r) t.r (across t.goes) (ran s (passages_of marks (first_half t)))
+
 -- what a pass promises, of one triangle and of one list behind another
 pub behind : {g h : Laying} (ts : List Passage) → Passes ts g h → pair h ≡ ran (pair g) ts
 behind {g} {h} ts p = let at : h.at ≡ (ran (pair g) ts).at = p.laid.behind ∙ sym (ran_at (pair g) ts) in λ i. runs (p.newer i) (at i)
 
-passed_one : {g h : Laying} (t : Passage) → Steps (taken t (pair g)) g h → Passes (t ∷ []) g h
+pub passed_one : {g h : Laying} (t : Passage) → Steps (taken t (pair g)) g h → Passes (t ∷ []) g h
 unfolding laid ran
 passed_one {g} {h} t w =
     record {
@@ -161,6 +188,18 @@ module _ (marks : List ℕ) (t : Passage) (s : Running) (ok : Passable marks t s
     twice =
         let more : t.left ≡ suc (t.left - 1) = omega (arith, some_left marks t is) in
         ap (λ (k : ℕ). 2 ^ k) more ∙ pow-suc 2 (t.left - 1)
+
+    pub first_passable : Passable marks (first_half t) s
+    first_passable =
+        let k = ok.corners.ends in
+        record {
+          corners = record {
+            ends = record { plain = k.plain; small = k.small; left = k.left; right = ok.corners.apex };
+            apex = omega (arith, k);
+          };
+          few = omega (arith, ok.few);
+          short = omega (arith, ok.short, twice);
+        }
 
     pub second_passable : Passable marks (second_half t) (ran s (passages_of marks (first_half t)))
     second_passable =
