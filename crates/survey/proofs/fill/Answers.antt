@@ -34,13 +34,13 @@ pub returns-then-has_void : goal.returns-then-has_void
 returns-then-has_void c =
     let lent = sym c.fill_spacings.ensures.lent in
     let swept = c.fill_spacings.ensures.swept in
-    let filled = none_left c.args.g.m _ _ c.requires.0 (rw c.copy.ensures at swept.partly) swept.stand in
-    record { is = search (rules, lent) ∙ filled; sixteen = c.has_void.ensures.sixteen }
+    let filled = none_left c.args.g.m _ _ c.requires.0 (rw c.copy.ensures.whole at swept.partly) swept.stand in
+    record { is = search (rules, lent) ∙ filled; sixteen = c.copy.ensures.sixteen }
 
 pub returns-else-has_void : goal.returns-else-has_void
 returns-else-has_void c =
     let s = c in
     record {
-      is = s.copy.ensures ∙ none_left s.args.g.m _ _ s.requires.0 (partly_none _ _) (none_found _ _ (sym s.has_void.ensures.any ∙ s.if-has_void.false)).1;
-      sixteen = s.has_void.ensures.sixteen;
+      is = s.copy.ensures.whole ∙ none_left s.args.g.m _ _ s.requires.0 (partly_none _ _) (none_found _ _ (sym s.has_void.ensures ∙ s.if-has_void.false)).1;
+      sixteen = s.copy.ensures.sixteen;
     }
