@@ -52,11 +52,6 @@ LEAVES = re.compile(r"give a proof of that as the last argument, `rw L t`")
 HOLDS = re.compile(r"`[^`]*` ≟ `[^`]*`: does not hold")
 # An equation does not begin, or end, where it says.
 FACE = re.compile(r"on the face `[^`]*` this λ's body is `")
-# A claim of which a tactic found no proof, and an equation whose sides it could not join.
-SEARCHED = re.compile(r"^`search`: no proof of `")
-UNJOINED = re.compile(r"^list the missing equation with its arguments, or rewrite by `rw` or `simp`")
-# An equation is claimed, where two facts of another claim are proved.
-PAIRED = re.compile(r"^a tuple is checked against `([^`]*)")
 # How those begin: of a message that is cut off sooner no more can be asked.
 BEGIN = [way + types for way in ("as printed, ", "computed as far as they go, ") for types in (
     "the two types differ only where one has `", "the two types first differ where one has `", "the two types are `", "the two values are `")]
@@ -90,11 +85,8 @@ def same_claim(expected, found):
 
 def failed_fact(error, cut):
     """Whether an error says that something is not so: an equation whose sides differ, or a bound that numbers break."""
-    if any(said.search(error) for said in (VALUES, OMEGA, LEAVES, HOLDS, FACE, SEARCHED, UNJOINED)):
+    if any(said.search(error) for said in (VALUES, OMEGA, LEAVES, HOLDS, FACE)):
         return True
-    paired = PAIRED.search(error)
-    if paired:
-        return relation(paired[1]) is not None and not PLACE.search(paired[1])
     # the term in which the message ends
     last = error.rsplit("`", 1)[-1] if cut and error.count("`") % 2 else None
     differ = DIFFER.search(error)
@@ -107,8 +99,7 @@ def failed_fact(error, cut):
         return all(is_value(term, term == last) for term in (expected, found) if term)
     both = ARE.search(error) or HAS.search(error)
     if not both:
-        # Only a comparison begins with a term, and not with a name.
-        return cut and (any(begin.startswith(error) for begin in BEGIN) or re.match(r"`[^`]*` ≟ `[^`]*$|`\S+ \([^`]*$", error) is not None)
+        return cut and (any(begin.startswith(error) for begin in BEGIN) or re.match(r"`[^`]*` ≟ `[^`]*$", error) is not None)
     expected, found = both.groups()
     if PLACE.search(expected) or PLACE.search(found or ""):
         return False
