@@ -9,12 +9,11 @@ use Rattle.grid.specs.Refusal.{accepted, number}
 use Rattle.grid.specs.declared.refusals.Refusal.{Refusal}
 use Rattle.grid.specs.declared.refusals.Refusal.TheVariants.{SizeAbove, WrongLength, VoidCorner, ToleranceAbove, PointBeyond, BadMark, NotClosed, NoRoom, InputForm}
 use Rattle.survey.specs.Filled.{sample}
-use Rattle.aim.specs.Aimed.{Handed, ended, refusal, height_in, surveyed, filled, says, said, no_ground, plane_answer, plane_at}
+use Rattle.aim.specs.Aimed.{Handed, ended, refusal, height_in, surveyed, filled, says, no_ground, plane_answer, plane_at}
 use Rattle.aim.specs.Aimed.{CornersSixteen, AnswersHeight, AnswersPlane, height_at}
 use Rattle.aim.specs.Inner.{height_here, filled_in, ground_at}
 use Rattle.aim.specs.Found.{Lands}
 use Rattle.aim.specs.declared.GroundPlane.{GroundPlane}
-use Rattle.aim.specs.declared.HeightAnswer.{HeightAnswer}
 use Rattle.aim.specs.declared.HeightAnswer.TheVariants.{Refused}
 use Rattle.aim.specs.declared.ground.Landing.{Landing}
 use Rattle.aim.proofs.Accepted.{accepted_handed}
@@ -37,7 +36,7 @@ never InputForm e = absurd (omega arith)
 -- the walk ended here
 module _ {h : Handed} (e : Landing) (l : Lands h e) where
   -- what stands at its corners stands at the corners of the final triangle
-  sixteen : CornersSixteen h
+  pub sixteen : CornersSixteen h
   unfolding sample
   sixteen = let s = rw (l.heights, l.end) at e.footing.stored in record { left = s.left; apex = s.apex; right = s.right }
 
@@ -53,12 +52,9 @@ module _ {h : Handed} (e : Landing) (l : Lands h e) where
       (sym (answered.plane_taken h l.taken))
 
   -- x and f are what the code was told of the height, and whether it was filled
-  pub height_ended : {x : Float} {f : Bool} (r : HeightAnswer) → said r ≡ says accepted (cond f filled surveyed) x →
-      x ≡ height_here e.grid.m e.heights.now e.end → f ≡ filled_in e.marks.now e.end → AnswersHeight h r
-  height_ended r is k f = record {
-    answer = is ∙ (λ i. says accepted (cond (f i) filled surveyed) (k i)) ∙ height_is;
-    sixteen = λ ok. sixteen;
-  }
+  pub height_ended : {x : Float} {f : Bool} → x ≡ height_here e.grid.m e.heights.now e.end → f ≡ filled_in e.marks.now e.end →
+      says accepted (cond f filled surveyed) x ≡ height_at h
+  height_ended k f = (λ i. says accepted (cond (f i) filled surveyed) (k i)) ∙ height_is
 
   pub plane_ended : {p : GroundPlane} → p ≡ ground_at e.grid.m e.heights.now e.end → AnswersPlane h (plane_answer accepted p)
   plane_ended k = record { answer = ap (plane_answer accepted) k ∙ plane_is; sixteen = λ ok. sixteen }

@@ -13,7 +13,7 @@ use Rattle.grid.specs.Mark.{good_mark}
 use Rattle.grid.specs.Refusal.{accepted, number, wrong_length, void_corner, point_beyond, bad_mark}
 use Rattle.grid.specs.Sizes.{size_answer}
 use Rattle.grid.specs.declared.refusals.Refusal.{Refusal}
-use Rattle.grid.specs.declared.refusals.Refusal.TheVariants.{BadMark}
+use Rattle.grid.specs.declared.refusals.Refusal.TheVariants.{VoidCorner, BadMark}
 use Rattle.grid.specs.declared.sizes.Size.{Size}
 use Rattle.grid.proofs.Sized.{given, refused}
 use Rattle.selection.specs.Marks.{mark_at}
@@ -24,7 +24,7 @@ use Rattle.mesh.specs.Closed.{every, good_at, kept_by}
 use Rattle.aim.specs.Walk.{start, under, met}
 use Rattle.aim.specs.Aimed.{Handed, started, ended, looked, refusal}
 use Rattle.aim.specs.Rule.{Lengths, Within, size, lengths, point}
-use Rattle.aim.specs.Inner.{placed, void_in, walk_from, Stands, Light, Stored, Footing}
+use Rattle.aim.specs.Inner.{placed, void_in, last_refusal, walk_from, Stands, Light, Stored, Footing}
 use Rattle.aim.specs.declared.walk.Reached.{Reached}
 use Rattle.aim.proofs.Weights.{started as weighed}
 use Rattle.aim.proofs.Grounds.{weighs, cuts_left}
@@ -36,6 +36,12 @@ pub record Asked (h : Handed) : Type 0 where
   pub small : h.m ≤ largest
   pub lengths : Lengths h
   pub within : Within h
+
+-- neither of the last two refusals was given
+pub passed : (good isvoid : Bool) → Ok tt ≡ last_refusal good isvoid → (good ≡ true) × (isvoid ≡ false)
+passed false isvoid e = let no : Ok tt ≡ Err BadMark = e in absurd cc
+passed true true e = let no : Ok tt ≡ Err VoidCorner = e in absurd cc
+passed true false e = (refl, refl)
 
 -- the marks at the grid corners are good
 abbrev pub corners_good : ℕ → List ℕ → Bool
@@ -153,6 +159,16 @@ module _ {h : Handed} (a : Asked h) where
 
         pub lands : void_in h.heights u ≡ false → (refusal h ≡ accepted) × (u ≡ to)
         lands full = (last ∙ rw (good, ends.0, sym told_void ∙ full) refl, ends.1)
+
+      -- good is what was told of the marks at the grid corners
+      pub last_refused : {good : Bool} → good ≡ corners_good h.m h.marks → {r : Refusal} →
+          Err r ≡ last_refusal good (void_in h.heights u) → refusal h ≡ number r
+      last_refused {good} told {r} e = by good (void_in h.heights u) told refl e
+        where
+          by : (g v : Bool) → g ≡ corners_good h.m h.marks → void_in h.heights u ≡ v → Err r ≡ last_refusal g v → refusal h ≡ number r
+          by false v is void e = let same : r ≡ BadMark = cc in rw same (corner_refused (sym is))
+          by true true is void e = let same : r ≡ VoidCorner = cc in rw same (void_refused (sym is) void)
+          by true false is void e = cc
 
       pub footing : void_in h.heights u ≡ false → Stored h.heights u → Footing h.m h.marks h.heights u
       footing full stored =

@@ -1,12 +1,12 @@
 -- What functions inside this crate may ask and what they promise one another. No rule rests on it. Definitions only.
-use Rattle.std.specs.Prelude.{◌≡◌, Bool, false, cond, ◌||◌, List, Result, Ok, Err, ℕ, zero, suc, ◌+◌, ◌-◌, ◌*◌, ◌^◌, ◌≤◌, ◌<◌, leb, length, get_or, ℤ, pos, ◌+ℤ◌, ◌*ℤ◌, Float}
+use Rattle.std.specs.Prelude.{◌≡◌, Bool, false, cond, ◌||◌, List, Result, Ok, Err, ℕ, zero, suc, ◌+◌, ◌-◌, ◌*◌, ◌^◌, ◌≤◌, ◌<◌, leb, length, get_or, ℤ, pos, ◌+ℤ◌, ◌*ℤ◌, Float, ⊤}
 use Rattle.std.specs.Int.{w16}
 use Rattle.std.proofs.Common.{SFits}
 use Rattle.grid.specs.Grid.{samples, largest, in_quarters, place, point, midplace, void, is_void}
 use Rattle.grid.specs.Points.{odd}
 use Rattle.grid.specs.Mark.{left_out}
 use Rattle.grid.specs.declared.refusals.Refusal.{Refusal}
-use Rattle.grid.specs.declared.refusals.Refusal.TheVariants.{BadMark}
+use Rattle.grid.specs.declared.refusals.Refusal.TheVariants.{VoidCorner, BadMark}
 use Rattle.mesh.specs.Inner.{kept_place, good_inner}
 use Rattle.aim.specs.Quotient.{format, quotient}
 use Rattle.aim.specs.Walk.{Under}
@@ -65,6 +65,10 @@ standing heights c = get_or heights c.place void
 -- a corner has height -32768
 abbrev pub void_in : List ℤ → Reached → Bool
 void_in heights t = is_void (standing heights t.l) || (is_void (standing heights t.a) || is_void (standing heights t.r))
+
+-- the last two refusals: whether the grid corners' marks are good is asked before whether a corner is void
+abbrev pub last_refusal : Bool → Bool → Result ⊤ Refusal
+last_refusal good isvoid = cond good (cond isvoid (Err VoidCorner) (Ok tt)) (Err BadMark)
 
 -- a corner that weighs has a mark of 4 or more
 abbrev pub filled_in : List ℕ → Reached → Bool

@@ -5,14 +5,16 @@ mod ground;
 mod quotient;
 pub mod walk;
 
+ghost use Rattle.std.specs.Prelude.{◌≡◌, Ok};
 ghost use Rattle.aim.specs.Aimed.{handed, AnswersHeight, AnswersPlane};
 ghost use Rattle.aim.specs.Found.{Found};
+ghost use Rattle.aim.specs.Inner.{void_in, last_refusal, Stands, Stored};
 
 use grid::refusals::Refusal;
 use grid::sizes::{grid_of, size_of};
 use ground::Landing;
 use mesh::good::corners_good;
-use walk::{start, walk};
+use walk::{Reached, start, walk};
 
 // The rules name this form, with the refusal's number: so it stays, and is no `Result`.
 #[derive(Clone, Copy)]
@@ -39,6 +41,21 @@ pub struct PlaneAnswer {
     pub ground: GroundPlane,
 }
 
+// A grid corner's mark that isn't good comes before a void corner of the final triangle.
+fn last_refusal(good: bool, end: &Reached, heights: &[i16]) -> Result<(), Refusal>
+    requires { Stands heights.now end.now }
+    ensures is { result ≡ last_refusal good (void_in heights.now end.now) }
+    ensures stored { result ≡ Ok tt → Stored heights.now end.now }
+{
+    if !good {
+        return Err(Refusal::BadMark);
+    }
+    if end.has_void(heights) {
+        return Err(Refusal::VoidCorner);
+    }
+    Ok(())
+}
+
 // Where the walk ends, or the first refusal: all that both calls are handed, from here on in one value.
 // Inlined, since apart from its callers it takes 408 instructions a height on a full grid, and not 377.
 #[inline(always)]
@@ -63,12 +80,7 @@ fn reach<'a>(
     // Looked at here and asked below: asked before the walk a height takes 423 instructions, and not 377, since the loop then spills.
     let good = corners_good(grid, marks);
     let end = walk(marks, start(grid, x, y))?;
-    if !good {
-        return Err(Refusal::BadMark);
-    }
-    if end.has_void(heights) {
-        return Err(Refusal::VoidCorner);
-    }
+    last_refusal(good, &end, heights)?;
     Ok(Landing {
         grid,
         marks,

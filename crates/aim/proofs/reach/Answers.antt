@@ -3,7 +3,7 @@ use mathlib.Core.Path.{refl, sym, ap, ◌∙◌}
 use Prim.Native.Nat.{ℕ}
 use Rattle.std.proofs.lemmas.Result.{err_from_is_err_and}
 use Rattle.aim.specs.Aimed.{handed}
-use Rattle.aim.proofs.Finding.{corners_good, size_refused, length_refused, point_refused, asked, walks, met_refused, sampled, corner_refused, void_refused, lands, footing}
+use Rattle.aim.proofs.Finding.{corners_good, size_refused, length_refused, point_refused, asked, walks, met_refused, passed, sampled, last_refused, lands, footing}
 use Rattle.aim.proofs.reach.Goals as goal
 
 pub returns-in_err-samples : goal.returns-in_err-samples
@@ -36,35 +36,27 @@ returns-in_err-end c =
     let r = err_from_is_err_and c.from_residual-in_err-end.result c.from_residual-in_err-end.ensures.1 in
     rw (r.1, r.2) (met_refused a c.grid_of-grid.ensures c.start.ensures c.in_err-end.ensures)
 
-pub returns-then-not-good : goal.returns-then-not-good
-returns-then-not-good c =
-    let h = handed c.args.marks.now c.args.heights.now c.args.m c.args.x c.args.y in
-    let a = asked h c.in_ok-samples.ensures c.if-marks-samples.false c.if-heights-samples.false c.grid_of-grid.ensures c.in_quarters-most.ensures c.if-most-x.false c.if-most-y.false in
-    let told = c.corners_good-good.ensures ∙ ap (λ (m : ℕ). corners_good m c.args.marks.now) c.grid_of-grid.ensures in
-    corner_refused a (sym told ∙ c.if-not-good.true)
-
-pub has_void-requires : goal.has_void-requires
-has_void-requires c =
+pub last_refusal-requires : goal.last_refusal-requires
+last_refusal-requires c =
     let h = handed c.args.marks.now c.args.heights.now c.args.m c.args.x c.args.y in
     let a = asked h c.in_ok-samples.ensures c.if-marks-samples.false c.if-heights-samples.false c.grid_of-grid.ensures c.in_quarters-most.ensures c.if-most-x.false c.if-most-y.false in
     sampled a c.grid_of-grid.ensures c.start.ensures c.in_ok-end.ensures
 
-pub returns-then-has_void : goal.returns-then-has_void
-returns-then-has_void c =
+pub returns-in_err-last_refusal : goal.returns-in_err-last_refusal
+returns-in_err-last_refusal c =
     let h = handed c.args.marks.now c.args.heights.now c.args.m c.args.x c.args.y in
     let a = asked h c.in_ok-samples.ensures c.if-marks-samples.false c.if-heights-samples.false c.grid_of-grid.ensures c.in_quarters-most.ensures c.if-most-x.false c.if-most-y.false in
     let told = c.corners_good-good.ensures ∙ ap (λ (m : ℕ). corners_good m c.args.marks.now) c.grid_of-grid.ensures in
-    void_refused a c.grid_of-grid.ensures c.start.ensures c.in_ok-end.ensures (sym told ∙ c.if-not-good.false)
-    (sym c.has_void.ensures.is ∙ c.if-has_void.true)
+    let r = err_from_is_err_and c.from_residual-in_err-last_refusal.result c.from_residual-in_err-last_refusal.ensures.1 in
+    rw (r.1, r.2) (last_refused a c.grid_of-grid.ensures c.start.ensures c.in_ok-end.ensures told c.in_err-last_refusal.ensures.is)
 
 pub invariant_of-result : goal.invariant_of-result
 invariant_of-result c =
     let h = handed c.args.marks.now c.args.heights.now c.args.m c.args.x c.args.y in
     let a = asked h c.in_ok-samples.ensures c.if-marks-samples.false c.if-heights-samples.false c.grid_of-grid.ensures c.in_quarters-most.ensures c.if-most-x.false c.if-most-y.false in
+    let p = passed _ _ c.in_ok-last_refusal.ensures.is in
     rw c.grid_of-grid.ensures record {
-      footing =
-          footing a c.grid_of-grid.ensures c.start.ensures c.in_ok-end.ensures (sym c.has_void.ensures.is ∙ c.if-has_void.false)
-          (c.has_void.ensures.stored c.if-has_void.false);
+      footing = footing a c.grid_of-grid.ensures c.start.ensures c.in_ok-end.ensures p.1 (c.in_ok-last_refusal.ensures.stored refl);
     }
 
 pub returns : goal.returns
@@ -72,8 +64,6 @@ returns c =
     let h = handed c.args.marks.now c.args.heights.now c.args.m c.args.x c.args.y in
     let a = asked h c.in_ok-samples.ensures c.if-marks-samples.false c.if-heights-samples.false c.grid_of-grid.ensures c.in_quarters-most.ensures c.if-most-x.false c.if-most-y.false in
     let told = c.corners_good-good.ensures ∙ ap (λ (m : ℕ). corners_good m c.args.marks.now) c.grid_of-grid.ensures in
-    let l =
-    lands a c.grid_of-grid.ensures c.start.ensures c.in_ok-end.ensures (sym told ∙ c.if-not-good.false)
-    (sym c.has_void.ensures.is ∙ c.if-has_void.false)
-    in
+    let p = passed _ _ c.in_ok-last_refusal.ensures.is in
+    let l = lands a c.grid_of-grid.ensures c.start.ensures c.in_ok-end.ensures (sym told ∙ p.0) p.1 in
     record { taken = l.0; size = c.grid_of-grid.ensures; marks = refl; heights = refl; end = l.1 }
