@@ -3,11 +3,10 @@ use mathlib.Core.Path.{◌≡◌, sym, ap, ◌∙◌}
 use mathlib.Core.Bool.{Bool, cond}
 use mathlib.Core.Logic.{◌≢◌}
 use Prim.Native.Nat.{ℕ}
-use native.Mathlib.Omega.{arith}
 use lib.Ieee.{Float}
 use Rattle.grid.specs.Refusal.{accepted, number}
 use Rattle.grid.specs.declared.refusals.Refusal.{Refusal}
-use Rattle.grid.specs.declared.refusals.Refusal.TheVariants.{SizeAbove, WrongLength, VoidCorner, ToleranceAbove, PointBeyond, BadMark, NotClosed, NoRoom, InputForm}
+use Rattle.grid.proofs.Refused.{refused as never}
 use Rattle.survey.specs.Filled.{sample}
 use Rattle.aim.specs.Aimed.{Handed, ended, refusal, height_in, surveyed, filled, says, no_ground, plane_answer, plane_at}
 use Rattle.aim.specs.Aimed.{CornersSixteen, AnswersHeight, AnswersPlane, height_at}
@@ -20,18 +19,6 @@ use Rattle.aim.proofs.Accepted.{accepted_handed}
 use Rattle.aim.proofs.Placing.{filled_placed, weighted_placed, ground_placed}
 use Rattle.aim.proofs.Grounds.{weighs}
 use Rattle.aim.proofs.Answered as answered
-
--- no refusal has the number of an accepted call
-never : (r : Refusal) → number r ≢ accepted
-never SizeAbove e = absurd (omega arith)
-never WrongLength e = absurd (omega arith)
-never VoidCorner e = absurd (omega arith)
-never ToleranceAbove e = absurd (omega arith)
-never PointBeyond e = absurd (omega arith)
-never BadMark e = absurd (omega arith)
-never NotClosed e = absurd (omega arith)
-never (NoRoom n) e = absurd (omega arith)
-never InputForm e = absurd (omega arith)
 
 -- the walk ended here
 module _ {h : Handed} (e : Landing) (l : Lands h e) where
