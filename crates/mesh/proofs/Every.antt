@@ -1,7 +1,7 @@
 -- Every member of a list: what `every` says of the members, and of the grid's points. By the list's first member and the rest; the
 -- grid's points are those inside the square, each at its place.
 use mathlib.Core.Path.{◌≡◌, refl, sym, ap, ◌∙◌, subst⁻¹}
-use mathlib.Core.Bool.{Bool, true, false, true≢false, ◌&&◌, and_assoc, and-eq-true_iff}
+use mathlib.Core.Bool.{Bool, true, ◌&&◌, and_assoc, and-eq-true_iff}
 use mathlib.Core.List.Memᴰ
 use mathlib.Core.List.{List, [], ◌∷◌, ◌++◌, Memᴰ}
 use mathlib.Core.Logic.{⊎_elim, ◌↔◌}
@@ -13,9 +13,6 @@ use Rattle.grid.specs.Grid.{samples, place, point, Inside}
 use Rattle.grid.specs.declared.points.Point.{Point}
 use Rattle.grid.proofs.OnGrid.{length_on_grid, on_grid_place, on_grid_point, room}
 use Rattle.grid.proofs.Places.{point_inside}
-use Rattle.grid.proofs.Sums.{false_by}
-use Rattle.std.specs.Bool.{MatchBool}
-use Rattle.std.specs.List.{AllWithin, HoldsAt}
 use Rattle.mesh.specs.Triangles.{points}
 use Rattle.mesh.specs.Closed.{every}
 
@@ -45,14 +42,6 @@ module _ {A : Type 0} (f : A → Bool) where
   pub in_every : (l : List A) → ((q : A) → Memᴰ q l → f q ≡ true) → every f l ≡ true
   in_every [] all = refl
   in_every (a ∷ l) all = rw (all a (Memᴰ.head refl)) (in_every l (λ q i. all q (Memᴰ.tail i)))
-
--- told by what an iterator's `all` has found
-pub told_cases : {A : Type 0} (f : A → Bool) (l : List A) (r : Bool) →
-    MatchBool r (AllWithin (λ a. f a ≡ true) l 0 (length l)) ((k : ℕ) × (k < length l) × HoldsAt (λ a. f a ≡ false) l k) → r ≡ every f l
-told_cases f l true all = sym (in_every f l (λ q k. let w = in_at l q k in ap f w.2 ∙ all w.0 q (omega arith) w.1))
-told_cases f [] false some = absurd (omega (arith, some.1))
-told_cases f (a ∷ l) false some =
-    sym (false_by (every f (a ∷ l)) (λ e. true≢false (sym (every_in f (a ∷ l) e (at_in (a ∷ l) some.0 a some.1)) ∙ some.2 a)))
 
 -- the members of two lists in a row, and two tests that agree at the members
 module _ {A : Type 0} (f : A → Bool) where

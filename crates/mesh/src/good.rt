@@ -1,6 +1,6 @@
 // Whether the marks are good.
 ghost use Rattle.std.specs.Prelude.{◌≡◌, true, false, ◌&&◌, length, fold};
-ghost use Rattle.grid.specs.Grid.{samples, corners};
+ghost use Rattle.grid.specs.Grid.{Inside, samples, corners};
 ghost use Rattle.grid.specs.Mark.{good_mark};
 ghost use Rattle.selection.specs.Marks.{mark_at};
 ghost use Rattle.mesh.specs.Closed.{every, good_marks};
@@ -8,6 +8,7 @@ ghost use Rattle.mesh.specs.Inner.{Plain};
 
 use grid::Grid;
 use grid::marks::{Marks, good};
+use grid::points::Point;
 
 // A grid's marks, of each of which one test tells whether it keeps its point, as of good ones. It holds what `Marks` holds, and not that itself,
 // so that clauses say grid and bytes in one step.
@@ -19,6 +20,13 @@ pub(crate) struct GoodMarks<'a> {
     ghost plain: { Plain bytes.now },
 }
 
+fn corner_good(marks: &Marks, p: Point) -> bool
+    requires { Inside marks.now.grid.m p }
+    ensures { result ≡ good_mark true (mark_at marks.now.grid.m marks.now.bytes.now p) }
+{
+    good(true, marks.at(p))
+}
+
 pub fn corners_good(g: Grid, marks: &[u8]) -> bool
     requires { length marks.now ≡ samples g.m }
     ensures { result ≡ every (λ p. good_mark true (mark_at g.m marks.now p)) (corners g.m) }
@@ -27,7 +35,7 @@ pub fn corners_good(g: Grid, marks: &[u8]) -> bool
         grid: g,
         bytes: marks,
     };
-    g.corners().iter().all(|p| good(true, marks.at(*p)))
+    g.corners().iter().all(|p| corner_good(&marks, *p))
 }
 
 // No early way out, so that the compiler can look at many marks at once.
