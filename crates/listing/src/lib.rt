@@ -62,15 +62,26 @@ impl Text<'_> {
         self.at = end;
     }
 
+    fn put_byte(&mut self, byte: u8)
+        requires { Room self.old 1 }
+        ensures { Adds 1 (byte ∷ []) self.old self.new }
+    {
+        self.out[self.at] = byte;
+        self.at += 1;
+    }
+
     // A number's digits: those of its tenth part, then its last one. Stays by hand: `write!` does not promise to succeed, each byte is promised, and a library here stands on no other repository's.
     fn put_decimal(&mut self, number: u32)
         requires { Room self.old most_digits }
         ensures { Adds most_digits (decimal_of number) self.old self.new }
     {
-        if number >= 10 {
-            self.put_decimal(number / 10);
+        if number < 10 {
+            return self.put_byte(b'0' + number as u8);
         }
-        self.put(&[b'0' + (number % 10) as u8]);
+        // Before the call, so that the number is not kept across it.
+        let last = b'0' + (number % 10) as u8;
+        self.put_decimal(number / 10);
+        self.put_byte(last);
     }
 
     // A number, and the byte behind it.
@@ -79,7 +90,7 @@ impl Text<'_> {
         ensures { Adds (suc most_digits) (decimal_of number ++ after ∷ []) self.old self.new }
     {
         self.put_decimal(number);
-        self.put(&[after]);
+        self.put_byte(after);
     }
 
     // A triangle's three places.

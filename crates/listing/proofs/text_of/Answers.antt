@@ -6,7 +6,7 @@ use Rattle.listing.proofs.text_of.Goals as goal
 pub put_answer-requires : goal.put_answer-requires
 put_answer-requires c =
     let h = held c.blank_places-places.ensures c.mesh_of-answer.ensures in
-    (omega (arith, h.0, c.told-out), h.1)
+    (omega (arith, h.0, c.told-out), omega (arith, h.1))
 
 pub returns : goal.returns
 returns c =

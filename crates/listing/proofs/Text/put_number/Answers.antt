@@ -3,4 +3,4 @@ use Rattle.listing.proofs.Joined.{both_added}
 use Rattle.listing.proofs.Text.put_number.Goals as goal
 
 pub returns : goal.returns
-returns c = both_added c.put_decimal.ensures c.put.ensures
+returns c = both_added c.put_decimal.ensures c.put_byte.ensures
