@@ -48,6 +48,7 @@ impl From<Refusal> for Selected {
 const HIGHEST_TOLERANCE: u32 = 65535;
 
 // The two facts stay a `requires`: only the four looks at the grid corners ask for them, before the call is accepted.
+#[tactic(auto, using(grid::proofs::OnGrid::room, survey::proofs::Reading::read))]
 fn void_at(g: Grid, p: Point, survey: &[i16]) -> bool
     requires { Inside g.m p × (length survey.now ≡ samples g.m) }
     ensures { result ≡ is_void (sample g.m survey.now p) }

@@ -53,10 +53,11 @@ module _ {g : Grid} {limit : ℕ} {survey heights : List ℤ} {p : Point} {d i :
       (λ j. ltb limit (doubled_error (h j) (a j) (b j)))
       ∙ exceeding_filled g.m survey limit p ready.filled n
 
-  -- the mark that the contract asks for, of a void and of a surveyed point
-  void_mark : {t k kept : Bool} → SFits w16 (get_or survey i (pos 0)) → t ≡ is_void (reading survey i) → t ≡ true → kept ≡ k →
+  -- the mark that the contract asks for, of a void and of a surveyed point. What was told of a void is written out and comes first: of another
+  -- list the check then names the two.
+  void_mark : {t k kept : Bool} → t ≡ is_void (to_z w16 (of_z w16 (get_or survey i (pos 0)))) → SFits w16 (get_or survey i (pos 0)) → t ≡ true → kept ≡ k →
       mark_by true false k ≡ mark_by (is_void (sample g.m survey p)) (exceeding g.m survey limit p) kept
-  void_mark f b t k =
+  void_mark b f t k =
       let v = sym (void_read f) ∙ sym b ∙ t in
       let n = void_within g.m survey limit p v in
       sym (λ j. mark_by (v j) (n j) (k j))
@@ -103,11 +104,11 @@ bounds-heights-at-else-is_void-2 c = omega (arith, rooms c.args.self.now.ready c
 
 pub returns-then-kept : goal.returns-then-kept
 returns-then-kept c =
-    void_mark c.args.self.now.ready c.requires c.place-at.ensures (search rules) c.is_void.ensures c.if-is_void.true c.if-kept.true
+    void_mark c.args.self.now.ready c.requires c.place-at.ensures c.is_void.ensures (search rules) c.if-is_void.true c.if-kept.true
 
 pub returns-else-kept : goal.returns-else-kept
 returns-else-kept c =
-    void_mark c.args.self.now.ready c.requires c.place-at.ensures (search rules) c.is_void.ensures c.if-is_void.true c.if-kept.false
+    void_mark c.args.self.now.ready c.requires c.place-at.ensures c.is_void.ensures (search rules) c.if-is_void.true c.if-kept.false
 
 pub returns-then-exceeds : goal.returns-then-exceeds
 returns-then-exceeds c =
